@@ -1,0 +1,5 @@
+pub mod Formulas
+pub mod Verdict
+pub mod Marks
+pub mod Reading
+pub mod Parts

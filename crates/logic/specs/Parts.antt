@@ -1,0 +1,119 @@
+-- 01, Spare rows, and Parts and joining: which rows a device may keep to itself, and the three kinds of part. Assumes nothing.
+use Prim.Native.Nat.{ℕ, suc, _*_}
+use mathlib.Core.Path.{_≡_}
+use mathlib.Core.Bool.{Bool, true, false, not, cond, _&&_, _||_}
+use mathlib.Core.List.{List, [], _∷_, _++_, reverse, map}
+use lib.ListN.{length, drop}
+use lib.Dec.{eqb, ltb, leb}
+use Rattle.base.specs.Lists.{select, when, concatMap, all, any, _∈_}
+use Rattle.tables.specs.Answers.{andThen, unless, unlessAny, isDone}
+use Rattle.tables.specs.Words.{rows, rowAt, rowCount, rowWords}
+use Rattle.tables.specs.Rules.{checkRule}
+use Rattle.tables.specs.Tables.{root, isParent, checkTable}
+use Rattle.tables.specs.declared.Row.{Row}
+use Rattle.tables.specs.declared.Answer.{Answer}
+use Rattle.tables.specs.declared.Answer.the-variants.{Done}
+use Rattle.logic.specs.Formulas.{Formula, negation, joined, quantified, compared, Over, roots, under, formula}
+use Rattle.logic.specs.Verdict.{Bindings, bind, bound, noneBound, named, settled}
+use Rattle.logic.specs.Reading.{reading, reads, contradicts}
+
+-- ---- reaching: for each variable bound so far and each row, the bindings along the chain by which the variable's quantifier
+-- reaches the row; none where it does not
+abbrev pub Chains : Type 0
+Chains = ℕ → Row → List Bindings
+
+abbrev pub noChains : Chains
+noChains v r = []
+
+abbrev pub chainsWith : ℕ → (Row → List Bindings) → Chains → Chains
+chainsWith x f K v = cond (eqb v x) f (K v)
+
+-- a quantifier reaches a row with its name that is a root, or whose parent is reached by the quantifier that binds the variable
+-- named in b. The variables along that chain are bound to the row and its ancestors, and all others are elsewhere.
+abbrev pub reach : List Row → Over → ℕ → ℕ → Chains → Row → List Bindings
+reach D roots n d K r = when (root r && named n r) (bind d (bound r) noneBound ∷ [])
+reach D (under v) n d K r = when (named n r) (map (bind d (bound r)) (concatMap (K v) (select (isParent r) D)))
+
+-- some quantifier reaches the row
+unfoldable pub reachedIn : Formula → List Row → ℕ → Chains → Row → Bool
+reachedIn (negation φ) D d K r = reachedIn φ D d K r
+reachedIn (joined c φ ψ) D d K r = reachedIn φ D d K r || reachedIn ψ D d K r
+reachedIn (quantified q o n φ) D d K r =
+    any (λ b. true) (reach D o n d K r) || reachedIn φ D (suc d) (chainsWith d (reach D o n d K) K) r
+reachedIn (compared c v w) D d K r = false
+
+unfoldable pub reached : Formula → List Row → Row → Bool
+reached F D r = reachedIn F D 0 noChains r
+
+-- for every quantifier that reaches the row, the body so read is true (kind 5) or false (kind 6)
+unfoldable pub spareIn : Formula → List Row → ℕ → Chains → Row → Bool
+spareIn (negation φ) D d K r = spareIn φ D d K r
+spareIn (joined c φ ψ) D d K r = spareIn φ D d K r && spareIn ψ D d K r
+spareIn (quantified q o n φ) D d K r =
+    all (λ b. reads (settled q) (reading φ D (suc d) b)) (reach D o n d K r)
+    && spareIn φ D (suc d) (chainsWith d (reach D o n d K) K) r
+spareIn (compared c v w) D d K r = true
+
+unfoldable pub spare : Formula → List Row → Row → Bool
+spare F D r = spareIn F D 0 noChains r
+
+-- 15: in a body read for spare rows, one quantifier over roots meets both its tests
+unfoldable pub contradictsIn : Formula → List Row → ℕ → Chains → Row → Bool
+contradictsIn (negation φ) D d K r = contradictsIn φ D d K r
+contradictsIn (joined c φ ψ) D d K r = contradictsIn φ D d K r || contradictsIn ψ D d K r
+contradictsIn (quantified q o n φ) D d K r =
+    any (contradicts φ D (suc d)) (reach D o n d K r)
+    || contradictsIn φ D (suc d) (chainsWith d (reach D o n d K) K) r
+contradictsIn (compared c v w) D d K r = false
+
+unfoldable pub contradiction : Formula → List Row → Bool
+contradiction F D = any (contradictsIn F D 0 noChains) D
+
+-- ---- parts
+-- the rows above r, nearest first: one walk back through the rows before it, which hold its parent
+unfoldable pub lineage : List Row → Row → List Row
+lineage [] r = []
+lineage (p ∷ earlier) r = cond (isParent r p) (p ∷ lineage earlier p) (lineage earlier r)
+
+unfoldable pub ancestors : List Row → Row → List Row
+ancestors D r = lineage (reverse D) r
+
+-- the rows that pass a test and whose ancestors all do
+unfoldable pub partBy : (Row → Bool) → List Row → List Row
+partBy t D = select (λ r. t r && all t (ancestors D r)) D
+
+-- mode 2, branch: rows that are reached and whose ancestors all are
+unfoldable pub branchPart : Formula → List Row → List Row
+branchPart F D = partBy (reached F D) D
+
+-- mode 3, full: rows that aren't spare and have no spare ancestor
+unfoldable pub fullPart : Formula → List Row → List Row
+fullPart F D = partBy (λ r. not (spare F D r)) D
+
+-- mode 1 is all rows
+unfoldable pub partOf : Formula → ℕ → List Row → List Row
+partOf F mode D = cond (eqb mode 1) D (cond (eqb mode 2) (branchPart F D) (fullPart F D))
+
+-- ---- the call: the number of rows sent, or the refusal; the output is their words and what stood past them, or as it was
+-- the words of rows
+abbrev pub wordsOf : List Row → List ℕ
+wordsOf D = concatMap (λ r. r .device ∷ r .at ∷ r .up ∷ r .name ∷ r .value ∷ []) D
+
+-- 14: a row whose device isn't the first row's
+abbrev pub otherDevice : List ℕ → ℕ → Bool
+otherDevice t i = not (eqb (rowAt t i .device) (rowAt t 0 .device))
+
+unfoldable pub partAnswer : List ℕ → List ℕ → ℕ → ℕ → Answer
+partAnswer rule table mode room =
+    let sent = partOf (formula rule) mode (rows table) in
+    andThen (checkRule rule) (andThen (checkTable table)
+    (unless (leb 1 mode && leb mode 3) 13
+    (unlessAny (otherDevice table) 14 (rowCount table)
+    (unless (not (eqb mode 3 && contradiction (formula rule) (rows table))) 15
+    (unless (leb (length (wordsOf sent)) room) 17
+    (Done (length sent)))))))
+
+unfoldable pub partOut : List ℕ → List ℕ → ℕ → List ℕ → List ℕ
+partOut rule table mode out =
+    let sent = wordsOf (partOf (formula rule) mode (rows table)) in
+    cond (isDone (partAnswer rule table mode (length out))) (sent ++ drop (length sent) out) out

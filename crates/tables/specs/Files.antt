@@ -1,0 +1,1 @@
+-- 01, Around the engine: rule and pool files.

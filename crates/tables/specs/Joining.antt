@@ -1,0 +1,37 @@
+-- 01, Parts and joining: joining puts a table after another whose last device is smaller. Assumes nothing.
+use Prim.Native.Nat.{ℕ, _+_, _-_}
+use mathlib.Core.Bool.{Bool, cond, _&&_, _||_}
+use mathlib.Core.List.{List, _++_}
+use lib.ListN.{length, take, drop}
+use lib.Dec.{ltb, leb, eqb}
+use Rattle.tables.specs.Answers.{andThen, unless, unlessAny, isDone}
+use Rattle.tables.specs.Words.{rowAt, rowCount}
+use Rattle.tables.specs.Tables.{rowFault, tableLength, checkTable}
+use Rattle.tables.specs.declared.Answer.{Answer}
+use Rattle.tables.specs.declared.Answer.the-variants.{Done, Refused}
+
+-- the second table's first device is above the first one's last; an empty side always fits
+abbrev pub follows : List ℕ → List ℕ → Bool
+follows s t =
+    eqb (rowCount s) 0 || (eqb (rowCount t) 0 || ltb (rowAt s (rowCount s - 1) .device) (rowAt t 0 .device))
+
+-- joining s and t in a buffer of that many words: 8 to 12 of the first, of the second, 16, 8 and 12 of the result, 17;
+-- its value is the number of words of the joined table
+unfoldable pub joinTables : List ℕ → List ℕ → ℕ → Answer
+joinTables s t room =
+    andThen (checkTable s) (andThen (checkTable t)
+    (unless (follows s t) 16
+    (unless (tableLength (s ++ t)) 8
+    (unlessAny (rowFault (s ++ t) 12) 12 (rowCount (s ++ t))
+    (unless (leb (length (s ++ t)) room) 17
+    (Done (length (s ++ t))))))))
+
+-- joining in place: the first table is the first `used` words of the pool. A request with more words in use than the
+-- pool has is 8, place 0.
+unfoldable pub joinAnswer : List ℕ → ℕ → List ℕ → Answer
+joinAnswer pool used t = unless (leb used (length pool)) 8 (joinTables (take used pool) t (length pool))
+
+-- the pool after it: the joined table and what stood past it, or as it was
+unfoldable pub joinPool : List ℕ → ℕ → List ℕ → List ℕ
+joinPool pool used t =
+    cond (isDone (joinAnswer pool used t)) (take used pool ++ t ++ drop (used + length t) pool) pool

@@ -1,0 +1,7 @@
+pub mod Answers
+pub mod Words
+pub mod Rules
+pub mod Tables
+pub mod Joining
+pub mod Devices
+pub mod Files

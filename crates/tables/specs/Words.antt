@@ -1,0 +1,66 @@
+-- 01, Tables: rules and tables in runs of words. Assumes nothing.
+use Prim.Native.Nat.{ℕ, zero, suc, _+_, _*_, _/_, _%_}
+use mathlib.Core.Bool.{Bool}
+use mathlib.Core.List.{List, [], _∷_}
+use lib.ListN.{length, getD}
+use lib.Dec.{eqb, ltb}
+use mathlib.Core.Bool.{_||_}
+use Rattle.tables.specs.declared.Row.{Row}
+use Rattle.tables.specs.declared.Entry.{Entry}
+
+-- word c of line i in a run of k words a line
+abbrev pub word : ℕ → List ℕ → ℕ → ℕ → ℕ
+word k ws i c = getD ws (k * i + c) 0
+
+-- the run is whole lines of k words
+abbrev pub whole : ℕ → List ℕ → Bool
+whole k ws = eqb (length ws % k) 0
+
+-- device, at and name are 1 to 65,535
+abbrev pub notIdentifier : ℕ → Bool
+notIdentifier x = ltb x 1 || ltb 65535 x
+
+-- values and constants are 0 to 2,147,483,647
+abbrev pub notValue : ℕ → Bool
+notValue x = ltb 2147483647 x
+
+-- ---- tables: a row is five words, `device at up name value`
+abbrev pub rowWords : ℕ
+rowWords = 5
+
+abbrev pub rowAt : List ℕ → ℕ → Row
+rowAt t i = record {
+  device = word rowWords t i 0;
+  at = word rowWords t i 1;
+  up = word rowWords t i 2;
+  name = word rowWords t i 3;
+  value = word rowWords t i 4;
+}
+
+-- the number of whole rows
+abbrev pub rowCount : List ℕ → ℕ
+rowCount t = length t / rowWords
+
+-- n rows from row i on
+unfoldable pub rowsFrom : List ℕ → ℕ → ℕ → List Row
+rowsFrom t i zero = []
+rowsFrom t i (suc n) = rowAt t i ∷ rowsFrom t (suc i) n
+
+-- a table's rows
+abbrev pub rows : List ℕ → List Row
+rows t = rowsFrom t 0 (rowCount t)
+
+-- ---- rules: an entry is four words, `kind a b c`
+abbrev pub entryWords : ℕ
+entryWords = 4
+
+abbrev pub entryAt : List ℕ → ℕ → Entry
+entryAt r i = record {
+  kind = word entryWords r i 0;
+  a = word entryWords r i 1;
+  b = word entryWords r i 2;
+  c = word entryWords r i 3;
+}
+
+abbrev pub entryCount : List ℕ → ℕ
+entryCount r = length r / entryWords

@@ -1,0 +1,24 @@
+// Rules and tables as lent runs of words: when they are accepted, joining, one device's rows, files.
+
+// What a call answers: its value, or 01's refusal by number and place.
+pub enum Answer {
+    Done(usize),
+    Refused { number: u32, place: usize },
+}
+
+// A row of a table.
+pub struct Row {
+    pub device: u32,
+    pub at: u32,
+    pub up: u32,
+    pub name: u32,
+    pub value: u32,
+}
+
+// An entry of a rule.
+pub struct Entry {
+    pub kind: u32,
+    pub a: u32,
+    pub b: u32,
+    pub c: u32,
+}
