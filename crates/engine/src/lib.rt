@@ -1,0 +1,4 @@
+// Verdict and marks of a rule on a pool.
+mod bindings;
+
+pub use bindings::Bindings;
