@@ -1,4 +1,15 @@
 // Rules and tables as lent runs of words: when they are accepted, joining, one device's rows, files.
+mod chains;
+mod devices;
+mod entries;
+mod joining;
+mod rows;
+mod rules;
+mod tables;
+// pub use devices::device_rows;
+// pub use joining::join;
+pub use rules::check_rule;
+pub use tables::check_table;
 
 // What a call answers: its value, or 01's refusal by number and place.
 pub enum Answer {

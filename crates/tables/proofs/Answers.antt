@@ -1,0 +1,62 @@
+-- What an accepted answer tells of the checks before it, and when checks are passed. Assumes nothing.
+use Prim.Native.Nat.{ℕ, _<_}
+use mathlib.Core.Path.{_≡_, refl}
+use mathlib.Core.Bool.{Bool, true, false, cond, false≢true}
+use mathlib.Core.List.{List, [], _∷_, List·Memᴰ·head, List·Memᴰ·tail}
+use Rattle.base.specs.Lists.{_∈_}
+use Rattle.base.specs.Search.{first, some}
+use Rattle.base.proofs.Search.{some-none, none-at}
+use Rattle.tables.specs.Answers.{isDone, andThen, unless, unlessAny, inOrder}
+use Rattle.tables.specs.declared.Answer.{Answer}
+use Rattle.tables.specs.declared.Answer.the-variants.{Done, Refused}
+
+-- ---- one check before the next answer
+pub unless-ok : (ok : Bool) (k : ℕ) (next : Answer) → isDone (unless ok k next) ≡ true → ok ≡ true
+unless-ok true k next e = refl
+unless-ok false k next e = e
+
+pub unless-next : (ok : Bool) (k : ℕ) (next : Answer) → isDone (unless ok k next) ≡ true → isDone next ≡ true
+unless-next true k next e = e
+unless-next false k next e = absurd (false≢true e)
+
+pub unless-passed : (ok : Bool) (k : ℕ) (next : Answer) → ok ≡ true → unless ok k next ≡ next
+unless-passed ok k next e = rw e
+
+pub andThen-first : (a next : Answer) → isDone (andThen a next) ≡ true → isDone a ≡ true
+andThen-first (Done n) next e = refl
+andThen-first (Refused k p) next e = e
+
+pub andThen-next : (a next : Answer) → isDone (andThen a next) ≡ true → isDone next ≡ true
+andThen-next (Done n) next e = e
+andThen-next (Refused k p) next e = absurd (false≢true e)
+
+pub andThen-passed : (a next : Answer) → isDone a ≡ true → andThen a next ≡ next
+andThen-passed (Done n) next e = refl
+andThen-passed (Refused k p) next e = absurd (false≢true e)
+
+-- ---- a check at n places
+module _ (fault : ℕ → Bool) (k n : ℕ) (next : Answer) where
+  choose : (b : Bool) → isDone (cond b (Refused k (first fault n)) next) ≡ true → (b ≡ false) × (isDone next ≡ true)
+  choose true e = absurd (false≢true e)
+  choose false e = (refl, e)
+
+  pub none-of : isDone (unlessAny fault k n next) ≡ true → (i : ℕ) → i < n → fault i ≡ false
+  none-of e i h = none-at fault n i (choose (some fault n) e .0) h
+
+  pub unlessAny-next : isDone (unlessAny fault k n next) ≡ true → isDone next ≡ true
+  unlessAny-next e = choose (some fault n) e .1
+
+  pub unlessAny-passed : ((i : ℕ) → i < n → fault i ≡ false) → unlessAny fault k n next ≡ next
+  unlessAny-passed h = rw (some-none fault n h)
+
+-- ---- checks in order: where they end accepted, no place has a fault of any of their numbers, and the other way round
+module _ (fault : ℕ → ℕ → Bool) (n : ℕ) where
+  pub no-fault : (ks : List ℕ) → isDone (inOrder fault n ks) ≡ true → (k : ℕ) → k ∈ ks → (i : ℕ) → i < n → fault k i ≡ false
+  no-fault (x ∷ ks) e k (List·Memᴰ·head s) i h = rw s (none-of (fault x) x n (inOrder fault n ks) e i h)
+  no-fault (x ∷ ks) e k (List·Memᴰ·tail m) i h = no-fault ks (unlessAny-next (fault x) x n (inOrder fault n ks) e) k m i h
+
+  pub in-order-passed : (ks : List ℕ) → ((k : ℕ) → k ∈ ks → (i : ℕ) → i < n → fault k i ≡ false) → inOrder fault n ks ≡ Done n
+  in-order-passed [] h = refl
+  in-order-passed (x ∷ ks) h =
+      let e : inOrder fault n ks ≡ Done n = in-order-passed ks (λ k m. h k (List·Memᴰ·tail m)) in
+      rw (unlessAny-passed (fault x) x n (inOrder fault n ks) (h x (List·Memᴰ·head refl))) e

@@ -1,0 +1,147 @@
+-- Each number's fault of an entry, and the refusals in their order. Assumes nothing.
+use Prim.Native.Nat.{ℕ, zero, suc, _+_, _-_, _*_, _%_, _≤_, _<_}
+use mathlib.Core.Path.{_≡_, refl, sym, ap, fun-ext, _∙_}
+use mathlib.Core.Bool.{Bool, true, false, cond, not, _&&_}
+use mathlib.Core.List.{List, [], _∷_, _++_, append-nil}
+use native.Mathlib.Numerals.{add-one}
+use native.Mathlib.Omega.{arith}
+use lib.Dec.{eqb, ltb, leb}
+use lib.ListN.{length}
+use borrow.Author.Tests.{ne-eqb, eqb-true, eqb-false, lt-ltb, le-ltb, leb-true}
+use Rattle.base.specs.Search.{sumBelow, first}
+use Rattle.base.proofs.Bools.{either, and-left, and-right}
+use Rattle.tables.specs.Words.{entryAt, entryCount, entryWords, rowAt, rowCount, rowWords, whole}
+use Rattle.tables.specs.Rules.{unknownKind, badWord, badChild, unbound, isQuantifier, namings, around, entryFault, ruleLength, checkRule}
+use Rattle.tables.specs.Answers.{unlessAny, inOrder}
+use Rattle.tables.specs.Tables.{outOfRange, isAbove, rowFault, tableLength, checkTable}
+use Rattle.tables.specs.Chains.{plainFault, linkFault}
+use Rattle.tables.specs.declared.Entry.{Entry}
+use Rattle.tables.specs.declared.Row.{Row}
+use Rattle.tables.specs.declared.Answer.{Answer}
+use Rattle.tables.specs.declared.Answer.the-variants.{Done, Refused}
+
+module _ (r : List ℕ) (k i : ℕ) (e : Entry) (e-is : e ≡ entryAt r i) where
+  pub fault-2 : k ≡ 2 → (b : Bool) → b ≡ unknownKind e → b ≡ entryFault r k i
+  unfolding entryFault
+  fault-2 z b h = h ∙ ap (λ (x : Entry). unknownKind x) e-is ∙ rw z
+
+  pub fault-3 : k ≡ 3 → (b : Bool) → b ≡ badWord e → b ≡ entryFault r k i
+  unfolding entryFault
+  fault-3 z b h = h ∙ ap (λ (x : Entry). badWord x) e-is ∙ rw z
+
+  module _ (n : ℕ) (n-is : n ≡ entryCount r) where
+    pub fault-4 : k ≡ 4 → (b : Bool) → b ≡ badChild n i e → b ≡ entryFault r k i
+    unfolding entryFault
+    fault-4 z b h = h ∙ ap (λ (x : Entry). badChild n i x) e-is ∙ ap (λ (m : ℕ). badChild m i (entryAt r i)) n-is ∙ rw z
+
+    pub fault-5 : k ≡ 5 → (m : ℕ) → m ≡ sumBelow (λ j. namings (entryAt r j) i) n → (ltb 0 i && not (eqb m 1)) ≡ entryFault r k i
+    unfolding entryFault
+    fault-5 z m h = ap (λ (x : ℕ). ltb 0 i && not (eqb x 1)) (h ∙ ap (sumBelow (λ j. namings (entryAt r j) i)) n-is) ∙ rw z
+
+  module _ (d : ℕ) (d-is : d ≡ around r i) where
+    pub fault-6 : k ≡ 6 → (b : Bool) → b ≡ isQuantifier e → (b && leb 8 d) ≡ entryFault r k i
+    unfolding entryFault
+    fault-6 z b h = ap (λ (x : Bool). x && leb 8 d) (h ∙ ap (λ (x : Entry). isQuantifier x) e-is) ∙ ap (λ (m : ℕ). isQuantifier (entryAt r i) && leb 8 m) d-is ∙ rw z
+
+    pub fault-7 : (k ≡ 2 → ⊥) → (k ≡ 3 → ⊥) → (k ≡ 4 → ⊥) → (k ≡ 5 → ⊥) → (k ≡ 6 → ⊥) → (b : Bool) → b ≡ unbound d e → b ≡ entryFault r k i
+    unfolding entryFault
+    fault-7 n2 n3 n4 n5 n6 b h =
+        h ∙ ap (λ (x : Entry). unbound d x) e-is ∙ ap (λ (m : ℕ). unbound m (entryAt r i)) d-is
+        ∙ rw (ne-eqb k 2 n2, ne-eqb k 3 n3, ne-eqb k 4 n4, ne-eqb k 5 n5, ne-eqb k 6 n6)
+
+-- ---- the loop over the numbers of a run of checks: the answer is that of the numbers left
+pub upFrom : ℕ → ℕ → List ℕ
+upFrom k zero = []
+upFrom k (suc m) = k ∷ upFrom (suc k) m
+
+pub record Tested (answer : Answer) (fault : ℕ → ℕ → Bool) (n start end k : ℕ) : Type 0 where
+  pub low : start ≤ k
+  pub high : k ≤ end
+  pub rest : answer ≡ inOrder fault n (upFrom k (end - k))
+
+module _ (answer : Answer) (fault : ℕ → ℕ → Bool) (n start end k : ℕ) (s : Tested answer fault n start end k) where
+  module _ (i : ℕ) (i-is : i ≡ first (fault k) n) (l : k < end) where
+    next : answer ≡ unlessAny (fault k) k n (inOrder fault n (upFrom (k + 1) (end - (k + 1))))
+    unfolding upFrom
+    next =
+        let e : end - k ≡ suc (end - (k + 1)) = omega arith in
+        s .rest ∙ ap (λ (m : ℕ). inOrder fault n (upFrom k m)) e ∙ rw (← add-one k)
+
+    pub test-hit : i < n → Refused k i ≡ answer
+    test-hit h = sym (next ∙ rw (← i-is, lt-ltb i n h))
+
+    pub test-more : n ≤ i → Tested answer fault n start end (k + 1)
+    test-more h = record { low = omega (arith, s .low); high = omega arith; rest = next ∙ rw (← i-is, le-ltb i n h) }
+
+  pub test-end : end ≤ k → Done n ≡ answer
+  unfolding upFrom
+  test-end h = let a : k ≤ end = s .high in let e : end - k ≡ 0 = omega arith in sym (s .rest ∙ rw e)
+
+-- ---- a rule's length
+module _ (r : List ℕ) where
+  pub rule-length : ruleLength r ≡ false → Refused 1 0 ≡ checkRule r
+  unfolding checkRule
+  rule-length e = simp e
+
+  pub rule-begin : ruleLength r ≡ true → Tested (checkRule r) (entryFault r) (entryCount r) 2 8 2
+  unfolding checkRule upFrom
+  rule-begin e = record { low = omega arith; high = omega arith; rest = simp e }
+
+  pub rule-short : ruleLength r ≡ true → entryCount r ≤ 128
+  rule-short e =
+      let w : Bool = whole entryWords r in
+      let a : Bool = leb 1 (entryCount r) in
+      let b : Bool = leb (entryCount r) 128 in
+      leb-true (entryCount r) 128 (and-right a b (and-right w (a && b) e))
+
+-- ---- a table's length
+module _ (t : List ℕ) where
+  pub table-length : tableLength t ≡ false → Refused 8 0 ≡ checkTable t
+  unfolding checkTable
+  table-length e = simp e
+
+  pub table-begin : tableLength t ≡ true → Tested (checkTable t) (rowFault t) (rowCount t) 9 13 9
+  unfolding checkTable upFrom
+  table-begin e = record { low = omega arith; high = omega arith; rest = simp e }
+
+  pub table-whole : tableLength t ≡ true → (rowCount t ≤ 1024) × (length t % 5 ≡ 0)
+  table-whole e =
+      let w : Bool = whole rowWords t in
+      let b : Bool = leb (rowCount t) 1024 in
+      (leb-true (rowCount t) 1024 (and-right w b e), eqb-true (length t % 5) 0 (and-left w b e))
+
+-- ---- each number's fault of a row
+module _ (t : List ℕ) (k i : ℕ) (r : Row) (r-is : r ≡ rowAt t i) where
+  pub plain-9 : k ≡ 9 → (b : Bool) → b ≡ outOfRange r → b ≡ plainFault k t i
+  unfolding plainFault
+  plain-9 z b h = h ∙ ap (λ (x : Row). outOfRange x) r-is ∙ rw z
+
+  pub plain-first : (k ≡ 9 → ⊥) → i ≡ 0 → false ≡ plainFault k t i
+  unfolding plainFault
+  plain-first n z = rw (ne-eqb k 9 n, z)
+
+  pub plain-above : (k ≡ 9 → ⊥) → (i ≡ 0 → ⊥) → (q : Row) → q ≡ rowAt t (i - 1) → (b : Bool) → b ≡ isAbove r q → not b ≡ plainFault k t i
+  unfolding plainFault
+  plain-above n p q q-is b h =
+      let l : 0 < i = omega arith in
+      ap not (h ∙ ap (λ (x : Row). isAbove x q) r-is ∙ ap (λ (x : Row). isAbove (rowAt t i) x) q-is)
+      ∙ sym (rw (ne-eqb k 9 n, lt-ltb 0 i l))
+
+module _ (t : List ℕ) (k : ℕ) where
+  plain-at : k < 11 → 9 ≤ k → (i : ℕ) → plainFault k t i ≡ rowFault t k i
+  unfolding plainFault rowFault
+  plain-at l h i = either (eqb k 9)
+      (λ e. rw e)
+      (λ e. let z : k ≡ 9 → ⊥ = eqb-false k 9 e in let w : k ≡ 10 = omega arith in rw w)
+
+  link-at : 11 ≤ k → (i : ℕ) → linkFault k t i ≡ rowFault t k i
+  unfolding linkFault rowFault
+  link-at h i = rw (ne-eqb k 9 (λ e. omega arith), ne-eqb k 10 (λ e. omega arith))
+
+  pub plain-first-is : (n m : ℕ) → k < 11 → 9 ≤ k → m ≡ first (plainFault k t) n → m ≡ first (rowFault t k) n
+  plain-first-is n m l h e = e ∙ ap (λ (p : ℕ → Bool). first p n) (fun-ext (plain-at l h))
+
+  pub link-first-is : (u : List ℕ) (n m : ℕ) → u ≡ [] → 11 ≤ k → m ≡ first (linkFault k (t ++ u)) n → m ≡ first (rowFault t k) n
+  link-first-is u n m u-is h e =
+      e ∙ ap (λ (x : List ℕ). first (linkFault k (t ++ x)) n) u-is ∙ ap (λ (x : List ℕ). first (linkFault k x) n) (append-nil t)
+      ∙ ap (λ (p : ℕ → Bool). first p n) (fun-ext (link-at h))

@@ -1,0 +1,24 @@
+-- `tables::check_table` meets its contract: one line of the refusal table after the other. Assumes nothing.
+use Prim.Native.Nat.{_-_}
+use mathlib.Core.Path.{refl}
+use native.Mathlib.Omega.{arith}
+use denote.Ref.{now}
+use borrow.Author.Tests.{not-true, not-false}
+use Rattle.tables.specs.Words.{rowCount}
+use Rattle.tables.specs.Tables.{rowFault, checkTable}
+use Rattle.tables.proofs.Faults.{Tested, table-whole, table-length, table-begin, test-hit, test-more, test-end}
+use Rattle.tables.proofs.tables.check_table.Statement.{statement}
+use Rattle.tables.proofs.tables.check_table.Tie as tie
+
+pub check-table-spec : {M : Type 1} → statement M
+check-table-spec = tie.close (tie.spec
+    (λ table n whole number₀ number. Tested (checkTable table) (rowFault table) (rowCount table) 9 13 number)
+    (λ table n whole number₀ number. 13 - number)
+    (λ c. table-length _ (not-true _ (c .if1 .taken)))
+    (λ c. table-begin _ (not-false _ (c .if1 .left)))
+    (λ c κs. let w = table-whole (now (c .before .before .before .before .args .table)) (not-false _ (c .before .before .if1 .left)) in (omega arith, w .0, w .1, c .before .loop .inv .low))
+    (λ c. test-hit _ _ _ _ _ _ (c .before .before .before .loop .inv) _ (c .before .first-row-fault .ensures) (c .before .before .loop-test .taken) (c .if2 .taken))
+    (λ c. omega (arith, c .before .before .loop-test .taken))
+    (λ c. omega (arith, c .before .before .loop-test .taken))
+    (λ c. test-more _ _ _ _ _ _ (c .before .before .before .loop .inv) _ (c .before .first-row-fault .ensures) (c .before .before .loop-test .taken) (c .if2 .left))
+    (λ c. test-end _ _ _ _ _ _ (c .before .loop .inv) (c .loop-test .left)))

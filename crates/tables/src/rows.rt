@@ -1,0 +1,78 @@
+// Rows as the code reads them, and their tests.
+use super::Row;
+ghost use mathlib.Core.Path.{_≡_};
+ghost use mathlib.Core.List.{_++_};
+ghost use Prim.Native.Nat.{_+_, _*_, _%_, _≤_};
+ghost use lib.ListN.{length};
+ghost use Rattle.tables.specs.Words.{rowAt};
+ghost use Rattle.tables.specs.Tables.{outOfRange, isAbove, isParent, isTwin};
+
+// The columns of a row, in the row's order.
+pub const ROW_WORDS: usize = 5;
+
+pub const DEVICE: usize = 0;
+
+pub const AT: usize = 1;
+
+pub const UP: usize = 2;
+
+pub const NAME: usize = 3;
+
+pub const VALUE: usize = 4;
+
+pub(crate) fn row_at(t: &[u32], i: usize) -> Row
+    requires { ⌜ 5 * i + 5 ≤ length (now t) ⌝ }
+    ensures { λ r. ⌜ r ≡ rowAt (now (t .entry)) i ⌝ }
+{
+    Row {
+        device: t[ROW_WORDS * i + DEVICE],
+        at: t[ROW_WORDS * i + AT],
+        up: t[ROW_WORDS * i + UP],
+        name: t[ROW_WORDS * i + NAME],
+        value: t[ROW_WORDS * i + VALUE],
+    }
+}
+
+// Row i of the table that s and t make in a row.
+pub(crate) fn row_of(s: &[u32], t: &[u32], i: usize) -> Row
+    requires { ⌜ length (now s) % 5 ≡ 0 ⌝ }
+    requires { ⌜ 5 * i + 5 ≤ length (now s) + length (now t) ⌝ }
+    ensures { λ r. ⌜ r ≡ rowAt (now (s .entry) ++ now (t .entry)) i ⌝ }
+{
+    let n = s.len() / ROW_WORDS;
+    if i < n {
+        return row_at(s, i);
+    }
+    row_at(t, i - n)
+}
+
+pub(crate) fn out_of_range(r: Row) -> bool
+    ensures { λ b. ⌜ b ≡ outOfRange r ⌝ }
+{
+    (r.device < 1)
+        | (65535 < r.device)
+        | ((r.at < 1) | (65535 < r.at))
+        | ((r.name < 1) | (65535 < r.name))
+        | (2147483647 < r.value)
+}
+
+pub(crate) fn is_above(r: Row, b: Row) -> bool
+    ensures { λ o. ⌜ o ≡ isAbove r b ⌝ }
+{
+    (b.device < r.device) | ((b.device == r.device) & (b.at < r.at))
+}
+
+pub(crate) fn is_parent(r: Row, p: Row) -> bool
+    ensures { λ o. ⌜ o ≡ isParent r p ⌝ }
+{
+    (p.device == r.device) & (p.at == r.up)
+}
+
+pub(crate) fn is_twin(r: Row, b: Row) -> bool
+    ensures { λ o. ⌜ o ≡ isTwin r b ⌝ }
+{
+    (b.up == r.up)
+        & ((r.up == 0) | (b.device == r.device))
+        & (b.name == r.name)
+        & (b.value == r.value)
+}

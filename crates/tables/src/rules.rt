@@ -1,0 +1,82 @@
+// The refusals of a rule: 1 to 7.
+use super::Answer;
+use super::entries::ENTRY_WORDS;
+use super::entries::bad_child;
+use super::entries::bad_word;
+use super::entries::entry_at;
+use super::entries::is_quantifier;
+use super::entries::quantifiers_around;
+use super::entries::times_named;
+use super::entries::unbound_variable;
+use super::entries::unknown_kind;
+ghost use mathlib.Core.Path.{_≡_};
+ghost use Prim.Native.Nat.{_+_, _*_, _≤_, _<_};
+ghost use lib.ListN.{length};
+ghost use Rattle.base.specs.Search.{first};
+ghost use Rattle.tables.specs.Words.{entryCount};
+ghost use Rattle.tables.specs.Rules.{entryFault, checkRule};
+
+// Whether entry i of n has the fault of that number.
+fn entry_fault(rule: &[u32], n: usize, number: u32, i: usize) -> bool
+    requires { ⌜ (n ≡ entryCount (now rule)) × (n ≤ 128) × (i < n) ⌝ }
+    ensures { λ o. ⌜ o ≡ entryFault (now (rule .entry)) number i ⌝ }
+{
+    let e = entry_at(rule, i);
+    if number == 2 {
+        return unknown_kind(e);
+    }
+    if number == 3 {
+        return bad_word(e);
+    }
+    if number == 4 {
+        return bad_child(n, i, e);
+    }
+    if number == 5 {
+        let times = times_named(rule, n, i);
+        return (0 < i) & !(times == 1);
+    }
+    let d = quantifiers_around(rule, i);
+    if number == 6 {
+        let quantifier = is_quantifier(e);
+        return quantifier & (8 <= d);
+    }
+    unbound_variable(d, e)
+}
+
+// The first of n entries that has the fault of that number, or n where none has.
+fn first_entry_fault(rule: &[u32], n: usize, number: u32) -> usize
+    requires { ⌜ (n ≡ entryCount (now rule)) × (n ≤ 128) ⌝ }
+    ensures { λ o. ⌜ o ≡ first (entryFault (now (rule .entry)) number) n ⌝ }
+{
+    let mut i = 0;
+    while i < n {
+        if entry_fault(rule, n, number, i) {
+            return i;
+        }
+        i += 1;
+    }
+    n
+}
+
+// The rule checks: the number of entries, or the first refusal.
+pub fn check_rule(rule: &[u32]) -> Answer
+    ensures { λ r. ⌜ r ≡ checkRule (now (rule .entry)) ⌝ }
+{
+    let n = rule.len() / ENTRY_WORDS;
+    let whole = (rule.len() % ENTRY_WORDS == 0) & ((1 <= n) & (n <= 128));
+    if !whole {
+        return Answer::Refused {
+            number: 1,
+            place: 0,
+        };
+    }
+    let mut number = 2;
+    while number < 8 {
+        let i = first_entry_fault(rule, n, number);
+        if i < n {
+            return Answer::Refused { number, place: i };
+        }
+        number += 1;
+    }
+    Answer::Done(n)
+}
