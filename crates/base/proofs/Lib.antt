@@ -1,2 +1,4 @@
 pub mod Bools
 pub mod Search
+pub mod Copies
+pub mod Lists

@@ -3,3 +3,4 @@ pub mod Verdict
 pub mod Marks
 pub mod Reading
 pub mod Parts
+pub mod Demand

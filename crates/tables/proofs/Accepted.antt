@@ -1,8 +1,8 @@
 -- What an accepted table tells: whole rows, no fault at any row, rows that rise, parents before, no twins, devices in one piece. Assumes nothing.
-use Prim.Native.Nat.{ℕ, zero, suc, _+_, _-_, _*_, _/_, _%_, _≤_, _<_}
+use Prim.Native.Nat.{ℕ, zero, suc, _+_, _-_, _*_, _%_, _≤_, _<_}
 use mathlib.Core.Path.{_≡_, refl, sym, ap, _∙_}
 use mathlib.Core.Logic.{⊎-elim}
-use mathlib.Core.Bool.{Bool, true, false, cond, not, _&&_, _||_, true≢false, false≢true}
+use mathlib.Core.Bool.{Bool, true, false, not, _&&_, _||_, true≢false}
 use mathlib.Core.List.{List, [], _∷_, List·Memᴰ·head, List·Memᴰ·tail}
 use native.Mathlib.Nat.{eq-or-lt-of-le, div-add-mod'}
 use native.Mathlib.Omega.{arith}
@@ -13,11 +13,10 @@ use Rattle.base.specs.Lists.{_∈_}
 use Rattle.base.specs.Search.{first, some}
 use Rattle.base.proofs.Bools.{either, and-left, and-right, or-left, or-right}
 use Rattle.base.proofs.Search.{at-first, none-before, none-at}
-use Rattle.tables.specs.Answers.{isDone, inOrder}
+use Rattle.tables.specs.Answers.{inOrder}
 use Rattle.tables.specs.Words.{whole, notIdentifier, notValue, rowWords, rowAt, rowCount}
 use Rattle.tables.specs.Tables.{root, isParent, isAbove, isTwin, outOfRange, notAbove, noParent, hasTwin, rowFault, rowLimit, tableLength, checkTable, acceptedTable}
 use Rattle.tables.specs.Devices.{fromDevice}
-use Rattle.tables.specs.declared.Answer.{Answer}
 use Rattle.tables.specs.declared.Answer.the-variants.{Done}
 use Rattle.tables.specs.declared.Row.{Row}
 use Rattle.tables.proofs.Answers.{unless-ok, unless-next, unless-passed, no-fault, in-order-passed}
@@ -103,11 +102,11 @@ module _ (t : List ℕ) where
 
     -- ---- order
     -- the device and the at of a row
-    abbrev device-at : ℕ → ℕ
-    device-at i = rowAt t i .device
+    abbrev deviceAt : ℕ → ℕ
+    deviceAt i = rowAt t i .device
 
-    abbrev at-at : ℕ → ℕ
-    at-at i = rowAt t i .at
+    abbrev atAt : ℕ → ℕ
+    atAt i = rowAt t i .at
 
     -- a row stands above the row before
     pub above : (i : ℕ) → suc i < rowCount t → isAbove (rowAt t (suc i)) (rowAt t i) ≡ true
@@ -117,17 +116,17 @@ module _ (t : List ℕ) where
         let e : notAbove t (suc i) ≡ false = no-10 (suc i) h in
         not-false _ (rw (lt-ltb 0 (suc i) p, q) at e)
 
-    rise : (i : ℕ) → suc i < rowCount t → device-at i ≤ device-at (suc i)
-    rise i h = either (ltb (device-at i) (device-at (suc i)))
-        (λ s. omega (arith, ltb-true (device-at i) (device-at (suc i)) s))
-        (λ s. let e : (eqb (device-at i) (device-at (suc i)) && ltb (at-at i) (at-at (suc i))) ≡ true = (rw s at (above i h)) in
-        omega (arith, eqb-true (device-at i) (device-at (suc i)) (and-left _ _ e)))
+    rise : (i : ℕ) → suc i < rowCount t → deviceAt i ≤ deviceAt (suc i)
+    rise i h = either (ltb (deviceAt i) (deviceAt (suc i)))
+        (λ s. omega (arith, ltb-true (deviceAt i) (deviceAt (suc i)) s))
+        (λ s. let e : (eqb (deviceAt i) (deviceAt (suc i)) && ltb (atAt i) (atAt (suc i))) ≡ true = (rw s at (above i h)) in
+        omega (arith, eqb-true (deviceAt i) (deviceAt (suc i)) (and-left _ _ e)))
 
     -- rows rise by device
     pub rises : (i j : ℕ) → i ≤ j → j < rowCount t → rowAt t i .device ≤ rowAt t j .device
-    rises i zero h l = let e : i ≡ 0 = omega arith in omega (arith, ap device-at e)
+    rises i zero h l = let e : i ≡ 0 = omega arith in omega (arith, ap deviceAt e)
     rises i (suc j) h l = ⊎-elim
-        (λ e. omega (arith, ap device-at e))
+        (λ e. omega (arith, ap deviceAt e))
         (λ m. let m′ : i ≤ j = omega arith in let l′ : j < rowCount t = omega arith in omega (arith, rises i j m′ l′, rise j l))
         (eq-or-lt-of-le h)
 
@@ -137,14 +136,14 @@ module _ (t : List ℕ) where
     strictly i (suc j) h l e =
         let m : i ≤ j = omega arith in
         let l′ : j < rowCount t = omega arith in
-        let up : device-at i ≤ device-at j = rises i j m l′ in
-        let one : device-at j ≤ device-at (suc j) = rise j l in
-        let step : at-at j < at-at (suc j) = either (ltb (device-at j) (device-at (suc j)))
-        (λ s. let q : device-at j < device-at (suc j) = ltb-true (device-at j) (device-at (suc j)) s in absurd (omega arith))
-        (λ s. ltb-true (at-at j) (at-at (suc j)) (and-right (eqb (device-at j) (device-at (suc j))) (ltb (at-at j) (at-at (suc j))) (rw s at (above j l)))) in
+        let up : deviceAt i ≤ deviceAt j = rises i j m l′ in
+        let one : deviceAt j ≤ deviceAt (suc j) = rise j l in
+        let step : atAt j < atAt (suc j) = either (ltb (deviceAt j) (deviceAt (suc j)))
+        (λ s. let q : deviceAt j < deviceAt (suc j) = ltb-true (deviceAt j) (deviceAt (suc j)) s in absurd (omega arith))
+        (λ s. ltb-true (atAt j) (atAt (suc j)) (and-right (eqb (deviceAt j) (deviceAt (suc j))) (ltb (atAt j) (atAt (suc j))) (rw s at (above j l)))) in
         ⊎-elim
-        (λ q. let z : at-at i ≡ at-at j = ap at-at q in omega arith)
-        (λ q. let z : at-at i < at-at j = strictly i j q l′ (omega arith) in omega arith)
+        (λ q. let z : atAt i ≡ atAt j = ap atAt q in omega arith)
+        (λ q. let z : atAt i < atAt j = strictly i j q l′ (omega arith) in omega arith)
         (eq-or-lt-of-le m)
 
     -- (device, at) identifies a row
@@ -171,7 +170,7 @@ module _ (t : List ℕ) where
     -- a row stands behind its parent
     pub behind : (p i : ℕ) → p < rowCount t → i < rowCount t → isParent (rowAt t i) (rowAt t p) ≡ true → p < i
     behind p i hp hi e =
-        let a : at-at p ≡ rowAt t i .up = parent-at (rowAt t i) (rowAt t p) e in
+        let a : atAt p ≡ rowAt t i .up = parent-at (rowAt t i) (rowAt t p) e in
         let f : root (rowAt t i) ≡ false = either (root (rowAt t i))
         (λ s. absurd (omega (arith, at-range p hp .0, eqb-true (rowAt t i .up) 0 s)))
         (λ s. s) in
@@ -190,19 +189,19 @@ module _ (t : List ℕ) where
     module _ (d i : ℕ) (h : i < rowCount t) where
       pub in-part : fromDevice t d ≤ i → i < fromDevice t (d + 1) → rowAt t i .device ≡ d
       in-part a b =
-          let u : device-at i ≤ d = omega (arith, leb-false (d + 1) (device-at i) (none-before (λ k. leb (d + 1) (device-at k)) (rowCount t) i b)) in
-          let w : d ≤ device-at (fromDevice t d) = leb-true d (device-at (fromDevice t d)) (at-first (λ k. leb d (device-at k)) (rowCount t) (omega arith)) in
+          let u : deviceAt i ≤ d = omega (arith, leb-false (d + 1) (deviceAt i) (none-before (λ k. leb (d + 1) (deviceAt k)) (rowCount t) i b)) in
+          let w : d ≤ deviceAt (fromDevice t d) = leb-true d (deviceAt (fromDevice t d)) (at-first (λ k. leb d (deviceAt k)) (rowCount t) (omega arith)) in
           omega (arith, rises (fromDevice t d) i a h)
 
       pub of-device : rowAt t i .device ≡ d → (fromDevice t d ≤ i) × (i < fromDevice t (d + 1))
       of-device e = (
         either (ltb i (fromDevice t d))
-            (λ s. absurd (omega (arith, leb-false d (device-at i) (none-before (λ k. leb d (device-at k)) (rowCount t) i (ltb-true i (fromDevice t d) s)))))
+            (λ s. absurd (omega (arith, leb-false d (deviceAt i) (none-before (λ k. leb d (deviceAt k)) (rowCount t) i (ltb-true i (fromDevice t d) s)))))
             (λ s. ltb-false i (fromDevice t d) s),
         either (ltb i (fromDevice t (d + 1)))
             (λ s. ltb-true i (fromDevice t (d + 1)) s)
             (λ s. let g : fromDevice t (d + 1) ≤ i = ltb-false i (fromDevice t (d + 1)) s in
-            let w : d + 1 ≤ device-at (fromDevice t (d + 1))
-            = leb-true (d + 1) (device-at (fromDevice t (d + 1))) (at-first (λ k. leb (d + 1) (device-at k)) (rowCount t) (omega arith)) in
+            let w : d + 1 ≤ deviceAt (fromDevice t (d + 1))
+            = leb-true (d + 1) (deviceAt (fromDevice t (d + 1))) (at-first (λ k. leb (d + 1) (deviceAt k)) (rowCount t) (omega arith)) in
             absurd (omega (arith, rises (fromDevice t (d + 1)) i g h))),
       )

@@ -4,3 +4,9 @@ pub mod Accepted
 pub mod Nesting
 pub mod Faults
 pub mod Linked
+pub mod Joins
+pub mod Parting
+pub mod RowLists
+pub mod Proper
+pub mod InPlace
+pub mod AcceptedRule

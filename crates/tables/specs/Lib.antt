@@ -5,4 +5,5 @@ pub mod Tables
 pub mod Chains
 pub mod Joining
 pub mod Devices
+pub mod Spans
 pub mod Files

@@ -6,8 +6,10 @@ mod joining;
 mod rows;
 mod rules;
 mod tables;
-// pub use devices::device_rows;
-// pub use joining::join;
+
+pub use devices::Span;
+pub use devices::device_rows;
+pub use joining::join;
 pub use rules::check_rule;
 pub use tables::check_table;
 

@@ -1,0 +1,16 @@
+pub mod Words
+pub mod Folds
+pub mod Sound
+pub mod Verdict
+pub mod Marks
+pub mod Ancestors
+pub mod Cuts
+pub mod Members
+pub mod Monotone
+pub mod Contradiction
+pub mod Devices
+pub mod Selections
+pub mod Joinings
+pub mod Calls
+pub mod Demand
+pub mod Formulas

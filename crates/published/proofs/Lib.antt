@@ -1,0 +1,7 @@
+pub mod Cases
+pub mod Table
+pub mod Rows
+pub mod Descent
+pub mod Chains
+pub mod Scoped
+pub mod Agree

@@ -1,0 +1,239 @@
+-- 01's worked pools (a) to (l), the reductions that lose a verdict, and a table on which the published meaning is not that of
+-- rows: the rows of one table, with one test over all of them, proved in proofs/Cases. Assumes nothing.
+use Prim.Native.Nat.{ℕ, zero, suc, _+_}
+use mathlib.Core.Path.{_≡_}
+use mathlib.Core.Bool.{Bool, true, false, not, cond, _&&_}
+use mathlib.Core.List.{List, [], _∷_, _++_}
+use lib.ListN.{length, drop, replicate}
+use lib.Dec.{eqb}
+use Rattle.base.specs.Lists.{select, concatMap, all}
+use Rattle.tables.specs.Answers.{number, place, value, isDone}
+use Rattle.tables.specs.Words.{rows, rowCount}
+use Rattle.tables.specs.Rules.{one, checkRule, acceptedRule}
+use Rattle.tables.specs.Tables.{checkTable}
+use Rattle.tables.specs.Joining.{joinAnswer, joinPool}
+use Rattle.tables.specs.declared.Row.{Row}
+use Rattle.tables.specs.declared.Answer.{Answer}
+use Rattle.tables.specs.declared.Answer.the-variants.{Done, Refused}
+use Rattle.logic.specs.Formulas.{formula}
+use Rattle.logic.specs.Verdict.{verdict, verdictAnswer}
+use Rattle.logic.specs.Marks.{marksAnswer, marksOut}
+use Rattle.logic.specs.Parts.{spare, partAnswer, partOut}
+use Rattle.published.specs.Published.{CL, NOT, OR, IMPLIES, SOME, EACH, EQUAL, _is_}
+use Rattle.published.specs.Stated.{noStanding, stated, published}
+
+-- ---- rules and tables
+abbrev pub row : ℕ → ℕ → ℕ → ℕ → ℕ → List ℕ
+row device at up name value = device ∷ at ∷ up ∷ name ∷ value ∷ []
+
+abbrev pub entry : ℕ → ℕ → ℕ → ℕ → List ℕ
+entry kind a b c = kind ∷ a ∷ b ∷ c ∷ []
+
+abbrev pub D1 : List ℕ
+D1 = row 1 1 0 1 11 ++ row 1 2 1 2 2 ++ row 1 3 1 3 101
+
+abbrev pub D2 : List ℕ
+D2 = row 2 1 0 1 12 ++ row 2 2 1 2 1
+
+abbrev pub D3 : List ℕ
+D3 = row 3 1 0 1 13 ++ row 3 2 1 2 3
+
+abbrev pub D4 : List ℕ
+D4 = row 4 1 0 1 14 ++ row 4 2 1 2 2
+
+-- client or server
+abbrev pub ruleA : List ℕ
+ruleA = entry 5 1 0 1 ++ entry 3 2 4 0 ++ entry 6 3 1 2 ++ entry 7 1 1 1 ++ entry 6 5 1 2 ++ entry 7 1 1 2
+
+-- at most one server
+abbrev pub ruleB : List ℕ
+ruleB =
+    entry 5 1 0 1 ++ entry 5 2 0 1 ++ entry 4 3 8 0 ++ entry 2 4 6 0 ++ entry 6 5 1 2 ++ entry 7 2 1 2 ++ entry 6 7 2 2
+    ++ entry 7 2 1 2 ++ entry 7 0 0 1
+
+-- n quantifiers around a comparison, from entry i on
+abbrev pub nested : ℕ → ℕ → List ℕ
+nested i zero = entry 7 0 1 0
+nested i (suc n) = entry 5 (suc i) 0 1 ++ nested (suc i) n
+
+-- every a is k (name 1 is a, name 2 is b)
+abbrev pub everyIs : ℕ → List ℕ
+everyIs k = entry 5 1 0 1 ++ entry 7 0 1 k
+
+-- every a is 1 or 2
+abbrev pub everyIsEither : List ℕ
+everyIsEither = entry 5 1 0 1 ++ entry 3 2 3 0 ++ entry 7 0 1 1 ++ entry 7 0 1 2
+
+-- some b is 1, or every a is 1
+abbrev pub someOrEvery : List ℕ
+someOrEvery = entry 3 1 3 0 ++ entry 6 2 0 2 ++ entry 7 0 1 1 ++ entry 5 4 0 1 ++ entry 7 0 1 1
+
+-- some b, every a: b is 1 or a is 1
+abbrev pub pulledToFront : List ℕ
+pulledToFront = entry 6 1 0 2 ++ entry 5 2 0 1 ++ entry 3 3 4 0 ++ entry 7 0 1 1 ++ entry 7 1 1 1
+
+-- every a has some b equal to 1
+abbrev pub everyHasOne : List ℕ
+everyHasOne = entry 5 1 0 1 ++ entry 6 2 1 2 ++ entry 7 1 1 1
+
+-- every c has under it only a's that have some b equal to 1 (name 9 is c)
+abbrev pub everyBelowHasOne : List ℕ
+everyBelowHasOne = entry 5 1 0 9 ++ entry 5 2 1 1 ++ entry 6 3 2 2 ++ entry 7 2 1 1
+
+-- no router (name 1) has the same address (name 3) for more than one interface (name 2)
+abbrev pub ruleAddresses : List ℕ
+ruleAddresses =
+    entry 5 1 0 1 ++ entry 5 2 1 2 ++ entry 5 3 1 2 ++ entry 5 4 2 3 ++ entry 5 5 3 3 ++ entry 4 6 8 0 ++ entry 1 7 0 0
+    ++ entry 7 1 0 2 ++ entry 1 9 0 0 ++ entry 7 3 0 4
+
+-- a router with two interfaces, the second with that address
+abbrev pub router : ℕ → List ℕ
+router address = row 1 1 0 1 10 ++ row 1 2 1 2 1 ++ row 1 3 2 3 77 ++ row 1 4 1 2 2 ++ row 1 5 4 3 address
+
+-- ---- what a case gives and expects
+-- a row by (device, at)
+abbrev pub key : ℕ → ℕ → List ℕ
+key device at = device ∷ at ∷ []
+
+pub data Case : Type 0 where
+  -- rule, pool: verdict, marked rows
+  judged : List ℕ → List ℕ → Bool → List ℕ → Case
+  -- rule, mode, table: the rows sent
+  sends : List ℕ → ℕ → List ℕ → List ℕ → Case
+  -- rule, table: the spare rows
+  spares : List ℕ → List ℕ → List ℕ → Case
+  -- what the checks of a rule, the checks of a table, and joining answer
+  ruleChecked : List ℕ → Answer → Case
+  tableChecked : List ℕ → Answer → Case
+  joins : List ℕ → List ℕ → Answer → Case
+  -- rule, a table that is not accepted: its refusal, the published truth, the verdict on rows
+  differs : List ℕ → List ℕ → Answer → Bool → Bool → Case
+
+-- ---- whether it is so
+abbrev pub sameBool : Bool → Bool → Bool
+sameBool a b = cond a b (not b)
+
+abbrev pub sameWords : List ℕ → List ℕ → Bool
+sameWords [] [] = true
+sameWords [] (y ∷ ys) = false
+sameWords (x ∷ xs) [] = false
+sameWords (x ∷ xs) (y ∷ ys) = eqb x y && sameWords xs ys
+
+abbrev pub sameAnswer : Answer → Answer → Bool
+sameAnswer a b = eqb (number a) (number b) && eqb (place a) (place b) && eqb (value a) (value b)
+
+-- a buffer of 7s
+abbrev pub buffer : ℕ → List ℕ
+buffer n = replicate n 7
+
+-- the rows whose byte is 1, any byte that is neither 0 nor 1, and what stands past the bytes
+abbrev pub markedRows : List Row → List ℕ → List ℕ
+markedRows [] out = out
+markedRows (r ∷ rs) [] = []
+markedRows (r ∷ rs) (m ∷ out) =
+    cond (eqb m 0) [] (cond (eqb m 1) (key (r .device) (r .at)) (m ∷ [])) ++ markedRows rs out
+
+unfoldable pub right : Case → Bool
+right (judged rule pool truth marks) =
+    sameAnswer (verdictAnswer rule pool) (Done (one truth))
+    && sameAnswer (marksAnswer rule pool (rowCount pool)) (Done (one truth))
+    && sameWords (markedRows (rows pool) (marksOut rule pool (buffer (rowCount pool + 1)))) (marks ++ buffer 1)
+    && sameBool (published rule pool) truth
+right (sends rule mode table sent) =
+    sameAnswer (partAnswer rule table mode (length sent)) (Done (rowCount sent))
+    && sameWords (partOut rule table mode (buffer (length table))) (sent ++ drop (length sent) (buffer (length table)))
+right (spares rule table keys) =
+    sameWords (concatMap (λ r. key (r .device) (r .at)) (select (spare (formula rule) (rows table)) (rows table))) keys
+right (ruleChecked rule answer) = sameAnswer (checkRule rule) answer
+right (tableChecked table answer) = sameAnswer (checkTable table) answer
+right (joins s t answer) =
+    sameAnswer (joinAnswer (s ++ buffer (length t)) (length s) t) answer
+    && sameWords (joinPool (s ++ buffer (length t)) (length s) t) (s ++ cond (isDone answer) t (buffer (length t)))
+right (differs rule pool answer truth onRows) =
+    acceptedRule rule && sameAnswer (checkTable pool) answer
+    && sameBool (published rule pool) truth
+    && sameBool (verdict (formula rule) (rows pool)) onRows
+
+-- ---- the table
+unfoldable pub cases : List Case
+cases =
+    -- (a)
+    judged ruleA [] true []
+    -- (b)
+    ∷ judged ruleA (D1 ++ D2) true (key 1 1 ++ key 1 2 ++ key 2 1 ++ key 2 2)
+    -- (c)
+    ∷ judged ruleA (D1 ++ D2 ++ D3) false (key 3 1 ++ key 3 2)
+    -- (d)
+    ∷ sends ruleA 3 D1 []
+    -- (e)
+    ∷ sends ruleA 3 D3 (row 3 1 0 1 13)
+    -- (f)
+    ∷ judged ruleB (D1 ++ D2) true (key 1 1 ++ key 2 1 ++ key 2 2)
+    -- (g)
+    ∷ judged ruleB (D1 ++ D2 ++ D4) false (key 1 1 ++ key 1 2 ++ key 4 1 ++ key 4 2)
+    -- (h)
+    ∷ sends ruleB 3 D1 (row 1 1 0 1 11 ++ row 1 2 1 2 2)
+    ∷ sends ruleB 3 D2 []
+    -- (i)
+    ∷ tableChecked (row 1 1 0 1 2147483647) (Done 1)
+    ∷ tableChecked (row 1 1 0 1 2147483648) (Refused 9 0)
+    -- (j)
+    ∷ tableChecked (D1 ++ row 1 4 1 2 2) (Refused 12 3)
+    -- (k)
+    ∷ ruleChecked (nested 0 8) (Done 9)
+    ∷ ruleChecked (nested 0 9) (Refused 6 8)
+    -- (l)
+    ∷ joins D2 D1 (Refused 16 0)
+    ∷ joins D1 D2 (Done 25)
+    -- the branch parts and all rows, beside (h)
+    ∷ sends ruleB 2 D1 (row 1 1 0 1 11 ++ row 1 2 1 2 2)
+    ∷ sends ruleB 2 D2 D2
+    ∷ sends ruleB 1 D1 D1
+    -- rows that fail the condition under kind 5 are kept: a = 2 alone under "every a is 1"
+    ∷ judged (everyIs 1) (row 1 1 0 1 2) false (key 1 1)
+    ∷ sends (everyIs 1) 3 (row 1 1 0 1 2) (row 1 1 0 1 2)
+    -- a quantifier is not split over or: with a = 1 and a = 2, "every a is 1 or 2" is true, yet neither half is
+    ∷ judged everyIsEither (row 1 1 0 1 1 ++ row 1 2 0 1 2) true (key 1 1 ++ key 1 2)
+    ∷ judged (everyIs 1) (row 1 1 0 1 1 ++ row 1 2 0 1 2) false (key 1 2)
+    ∷ judged (everyIs 2) (row 1 1 0 1 1 ++ row 1 2 0 1 2) false (key 1 1)
+    -- quantifiers are not pulled to the front: with no rows the first is true, the second false
+    ∷ judged someOrEvery [] true []
+    ∷ judged pulledToFront [] false []
+    -- a spare row is not sent without its child that isn't spare: D1's 1/2 isn't spare and (d) sends neither; 1/1 alone is false
+    ∷ spares ruleA D1 (key 1 1 ++ key 1 3)
+    ∷ judged ruleA D1 true (key 1 1 ++ key 1 2)
+    ∷ judged ruleA (row 1 1 0 1 11) false (key 1 1)
+    -- paths of two pairs
+    ∷ judged ruleAddresses (router 77) false (key 1 1 ++ key 1 2 ++ key 1 3 ++ key 1 4 ++ key 1 5)
+    ∷ judged ruleAddresses (router 78) true (key 1 1 ++ key 1 2 ++ key 1 3 ++ key 1 4 ++ key 1 5)
+    -- without check 12 the sets of values and the rows differ: two nodes 1 = 5, of which one has a child; so on two
+    -- devices, and under one parent
+    ∷ differs everyHasOne (row 1 1 0 1 5 ++ row 1 2 1 2 1 ++ row 1 3 0 1 5) (Refused 12 2) true false
+    ∷ differs everyHasOne (row 1 1 0 1 5 ++ row 1 2 1 2 1 ++ row 2 1 0 1 5) (Refused 12 2) true false
+    ∷ differs everyBelowHasOne (row 1 1 0 9 7 ++ row 1 2 1 1 5 ++ row 1 3 2 2 1 ++ row 1 4 1 1 5) (Refused 12 3) true false
+    ∷ []
+
+-- the claim
+abbrev pub Worked : Type 0
+Worked = all right cases ≡ true
+
+-- ---- rule A as 004 prints it, CL Constraint 1 (with the parentheses of section 4.2.2): [device = s₁]
+-- (⟨device = s₁; vtp mode = x⟩ x = client ∨ ⟨device = s₁; vtp mode = x⟩ x = server), with name 1 device, 2 VTP mode; mode 1 client, 2 server
+unfoldable pub constraint1 : CL
+constraint1 =
+    EACH [] 1 (λ s₁. OR
+    (SOME ((1 is s₁) ∷ []) 2 (λ x. EQUAL x 1))
+    (SOME ((1 is s₁) ∷ []) 2 (λ x. EQUAL x 2)))
+
+-- ---- section 4.2.2: [router = r₁] [router = r₁; interface = i₁] [router = r₁; interface = i₂]
+-- [router = r₁, interface = i₁; ip-address = ip₁] [router = r₁, interface = i₂; ip-address = ip₂] (i₁ ≠ i₂ → ip₁ ≠ ip₂)
+unfoldable pub addresses : CL
+addresses =
+    EACH [] 1 (λ r₁. EACH ((1 is r₁) ∷ []) 2 (λ i₁. EACH ((1 is r₁) ∷ []) 2 (λ i₂.
+    EACH ((1 is r₁) ∷ (2 is i₁) ∷ []) 3 (λ ip₁. EACH ((1 is r₁) ∷ (2 is i₂) ∷ []) 3 (λ ip₂.
+    IMPLIES (NOT (EQUAL i₁ i₂)) (NOT (EQUAL ip₁ ip₂)))))))
+
+-- the claim
+pub record AsPrinted : Type 0 where
+  pub first : stated (formula ruleA) 0 noStanding ≡ constraint1
+  pub second : stated (formula ruleAddresses) 0 noStanding ≡ addresses

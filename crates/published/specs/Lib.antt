@@ -1,0 +1,4 @@
+pub mod Published
+pub mod Stated
+pub mod Chains
+pub mod Cases

@@ -1,0 +1,91 @@
+-- A rule as a published formula, a table as a published tree, and the claim that the published meaning gives the verdict.
+-- Assumes nothing.
+use Prim.Native.Nat.{ℕ, suc}
+use mathlib.Core.Path.{_≡_}
+use mathlib.Core.Bool.{Bool, true, false, cond}
+use mathlib.Core.List.{List, [], _∷_, _++_}
+use lib.Dec.{eqb}
+use Rattle.tables.specs.Words.{rows}
+use Rattle.tables.specs.Rules.{one, acceptedRule}
+use Rattle.tables.specs.Tables.{root, isParent, acceptedTable}
+use Rattle.tables.specs.declared.Row.{Row}
+use Rattle.tables.specs.declared.Answer.the-variants.{Done}
+use Rattle.logic.specs.Formulas.{Formula, negation, joined, quantified, compared, Connective, and, or, implies, Quantifier, every, some, Comparison, equal, less, atMost, Over, roots, under, Operand, variable, constant, formula}
+use Rattle.logic.specs.Verdict.{verdict, verdictAnswer}
+use Rattle.published.specs.Published.{Tree, noNode, node, Path, _is_, CL, NOT, OR, AND, IMPLIES, SOME, EACH, EQUAL, LESS, ATMOST, _⊨_}
+
+-- ---- a rule's formula in the document's form
+-- a variable stands for a value; its path leads to that value and ends in it
+pub record Standing : Type 0 where
+  pub path : Path
+  pub value : ℕ
+
+abbrev pub Standings : Type 0
+Standings = ℕ → Standing
+
+-- no variable stands for anything yet; an accepted rule never looks at what is given here
+abbrev pub noStanding : Standings
+noStanding x = record { path = []; value = 0 }
+
+-- variable x stands for the value k of p at the end of the path
+abbrev pub stand : ℕ → Path → ℕ → ℕ → Standings → Standings
+stand x path p k e y = cond (eqb y x) (record { path = path ++ (p is k) ∷ []; value = k }) (e y)
+
+-- "a quantifier in CL always carries the path leading to a subtree (if any) that may refer to previously quantified variables":
+-- none over roots, else the path of the variable of the parent
+abbrev pub pathTo : Over → Standings → Path
+pathTo roots e = []
+pathTo (under x) e = e x .path
+
+abbrev pub term : Standings → Operand → ℕ
+term e (variable x) = e x .value
+term e (constant k) = k
+
+abbrev pub connective : Connective → CL → CL → CL
+connective and = AND
+connective or = OR
+connective implies = IMPLIES
+
+abbrev pub quantifier : Quantifier → Path → ℕ → (ℕ → CL) → CL
+quantifier every = EACH
+quantifier some = SOME
+
+abbrev pub comparison : Comparison → ℕ → ℕ → CL
+comparison equal = EQUAL
+comparison less = LESS
+comparison atMost = ATMOST
+
+-- d quantifiers stand around
+unfoldable pub stated : Formula → ℕ → Standings → CL
+stated (negation φ) d e = NOT (stated φ d e)
+stated (joined c φ ψ) d e = connective c (stated φ d e) (stated ψ d e)
+stated (quantified q o p φ) d e = quantifier q (pathTo o e) p (λ k. stated φ (suc d) (stand d (pathTo o e) p k e))
+stated (compared c x y) d e = comparison c (e x .value) (term e y)
+
+-- ---- a table's tree
+-- the nodes of the rows that pass the test, and below each those of the rows whose parent it is, which all stand after it
+unfoldable pub treeOf : (Row → Bool) → List Row → Tree
+treeOf t [] = noNode
+treeOf t (r ∷ rs) = elim (t r) [
+  | true ↦ node (r .name) (r .value) (treeOf (λ s. isParent s r) rs) (treeOf t rs)
+  | false ↦ treeOf t rs
+]
+
+-- its roots and what hangs below them
+unfoldable pub tree : List Row → Tree
+tree T = treeOf root T
+
+-- ---- the published truth of a rule on a table, both given in words
+unfoldable pub published : List ℕ → List ℕ → Bool
+published rule pool = tree (rows pool) ⊨ stated (formula rule) 0 noStanding
+
+-- ---- the claims, proved in proofs/Agree for every accepted rule and every accepted table
+-- it is the verdict on the rows
+abbrev pub Agreed : Type 0
+Agreed = (rule pool : List ℕ) → acceptedRule rule ≡ true → acceptedTable pool ≡ true
+    → published rule pool ≡ verdict (formula rule) (rows pool)
+
+-- and what the call for the verdict answers
+abbrev pub Answered : Type 0
+Answered = (rule pool : List ℕ) → acceptedRule rule ≡ true → acceptedTable pool ≡ true
+    → verdictAnswer rule pool ≡ Done (one (published rule pool))
