@@ -10,3 +10,14 @@ pub mod RowLists
 pub mod Proper
 pub mod InPlace
 pub mod AcceptedRule
+pub mod Calls
+pub mod Digits
+pub mod Fills
+pub mod ReadAnswers
+pub mod ReadBack
+pub mod Scans
+pub mod Steps
+pub mod Trips
+pub mod WriteAnswers
+pub mod WriteBack
+pub mod Writes

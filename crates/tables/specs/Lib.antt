@@ -7,3 +7,5 @@ pub mod Joining
 pub mod Devices
 pub mod Spans
 pub mod Files
+pub mod Scans
+pub mod Trips

@@ -36,7 +36,8 @@ pub struct Span {
     pub end: usize,
 }
 
-fn device_span(table: &[u32], device: u32) -> Span
+// Where they stand: 0 and 0 if the device isn't there or the table has a fault.
+pub fn device_span(table: &[u32], device: u32) -> Span
     ensures { λ r. ⌜ IsSpan (now (table .entry)) device (r .start) (r .end) ⌝ }
 {
     let k = check_table(table);

@@ -1,14 +1,23 @@
 // Rules and tables as lent runs of words: when they are accepted, joining, one device's rows, files.
 mod chains;
+mod columns;
 mod devices;
 mod entries;
+mod files;
 mod joining;
+mod reading;
 mod rows;
 mod rules;
 mod tables;
+mod writing;
 
 pub use devices::Span;
 pub use devices::device_rows;
+pub use devices::device_span;
+pub use files::read_pool;
+pub use files::read_rule;
+pub use files::write_pool;
+pub use files::write_rule;
 pub use joining::join;
 pub use rules::check_rule;
 pub use tables::check_table;

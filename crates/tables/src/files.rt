@@ -1,0 +1,50 @@
+// Rule and pool files.
+use super::Answer;
+use super::entries::ENTRY_WORDS;
+use super::reading::read_file;
+use super::rows::ROW_WORDS;
+use super::rules::check_rule;
+use super::tables::check_table;
+use super::writing::write_file;
+ghost use mathlib.Core.Path.{_≡_};
+ghost use lib.ListN.{length};
+ghost use Rattle.tables.specs.Files.{readRule, readRuleOut, readPool, readPoolOut, writeRule, writeRuleOut, writePool, writePoolOut};
+
+// The line of names of a rule file, and of a pool file.
+const RULE_NAMES: [u8; 11] = *b"kind a b c\n";
+
+const POOL_NAMES: [u8; 24] = *b"device at up name value\n";
+
+// Reads a rule file: its number of words.
+pub fn read_rule(file: &[u8], out: &mut [u32]) -> Answer
+    ensures answer { λ r. ⌜ r ≡ readRule (now (file .entry)) (length (now (out .entry))) ⌝ }
+    ensures words { λ r. ⌜ now (out .exit) ≡ readRuleOut (now (file .entry)) (now (out .entry)) ⌝ }
+{
+    read_file(&RULE_NAMES, ENTRY_WORDS, file, out)
+}
+
+// Reads a pool file: its number of words.
+pub fn read_pool(file: &[u8], out: &mut [u32]) -> Answer
+    ensures answer { λ r. ⌜ r ≡ readPool (now (file .entry)) (length (now (out .entry))) ⌝ }
+    ensures words { λ r. ⌜ now (out .exit) ≡ readPoolOut (now (file .entry)) (now (out .entry)) ⌝ }
+{
+    read_file(&POOL_NAMES, ROW_WORDS, file, out)
+}
+
+// Writes a rule's file: its number of bytes.
+pub fn write_rule(rule: &[u32], out: &mut [u8]) -> Answer
+    ensures answer { λ r. ⌜ r ≡ writeRule (now (rule .entry)) (length (now (out .entry))) ⌝ }
+    ensures bytes { λ r. ⌜ now (out .exit) ≡ writeRuleOut (now (rule .entry)) (now (out .entry)) ⌝ }
+{
+    let checked = check_rule(rule);
+    write_file(&RULE_NAMES, ENTRY_WORDS, checked, rule, out)
+}
+
+// Writes a pool's file: its number of bytes.
+pub fn write_pool(table: &[u32], out: &mut [u8]) -> Answer
+    ensures answer { λ r. ⌜ r ≡ writePool (now (table .entry)) (length (now (out .entry))) ⌝ }
+    ensures bytes { λ r. ⌜ now (out .exit) ≡ writePoolOut (now (table .entry)) (now (out .entry)) ⌝ }
+{
+    let checked = check_table(table);
+    write_file(&POOL_NAMES, ROW_WORDS, checked, table, out)
+}

@@ -1,0 +1,125 @@
+// Writing a file: any line of names, any number of columns.
+use super::Answer;
+use super::columns::byte_after;
+use super::columns::next_column;
+ghost use mathlib.Core.Path.{_≡_};
+ghost use Prim.Native.Nat.{_+_, _≤_, _<_, _^_, min};
+ghost use lib.ListN.{length};
+ghost use lib.Seq.{sets};
+ghost use Rattle.tables.specs.Files.{numberText, textFrom, writeAnswer, writeOut};
+ghost use Rattle.tables.specs.Scans.{textLength};
+
+// How many digits a number has.
+fn width(w: u32) -> usize
+    ensures { λ r. ⌜ (r ≡ length (numberText w)) × (r ≤ 10) ⌝ }
+{
+    let mut n = 1;
+    let mut v = w;
+    while 9 < v {
+        v /= 10;
+        n += 1;
+    }
+    n
+}
+
+// Puts the digits of w at `at`, and answers the place past them.
+fn put_number(out: &mut [u8], at: usize, w: u32) -> usize
+    requires { ⌜ at + length (numberText w) ≤ length (now out) ⌝ }
+    ensures place { λ r. ⌜ r ≡ at + length (numberText w) ⌝ }
+    ensures bytes { λ r. ⌜ now (out .exit) ≡ sets (now (out .entry)) at (numberText w) ⌝ }
+{
+    let end = at + width(w);
+    let mut i = end;
+    let mut v = w;
+    while 9 < v {
+        i -= 1;
+        out[i] = b'0' + (v % 10) as u8;
+        v /= 10;
+    }
+    out[at] = b'0' + v as u8;
+    end
+}
+
+// Puts the line of names at the start.
+fn put_names(names: &[u8], out: &mut [u8])
+    requires { ⌜ length (now names) ≤ length (now out) ⌝ }
+    ensures { λ _. ⌜ now (out .exit) ≡ sets (now (out .entry)) 0 (now (names .entry)) ⌝ }
+{
+    let mut i = 0;
+    while i < names.len() {
+        out[i] = names[i];
+        i += 1;
+    }
+}
+
+// The bytes that the words take, or room + 1 where that is more: the whole sum may not fit a usize.
+fn text_length(words: &[u32], room: usize) -> usize
+    requires { ⌜ room < 2 ^ 63 ⌝ }
+    ensures { λ r. ⌜ r ≡ min (textLength (now (words .entry))) (room + 1) ⌝ }
+{
+    let mut n = 0;
+    let mut i = 0;
+    while i < words.len() {
+        n += width(words[i]) + 1;
+        if room < n {
+            return room + 1;
+        }
+        i += 1;
+    }
+    n
+}
+
+// Puts the words at `at`, each with the byte after it.
+fn put_words(k: usize, words: &[u32], out: &mut [u8], at: usize)
+    requires { ⌜ (0 < k) × (at + textLength (now words) ≤ length (now out)) ⌝ }
+    ensures { λ _. ⌜ now (out .exit) ≡ sets (now (out .entry)) at (textFrom k 0 (now (words .entry))) ⌝ }
+{
+    let mut p = at;
+    let mut c = 0;
+    let mut i = 0;
+    while i < words.len() {
+        p = put_number(out, p, words[i]);
+        out[p] = byte_after(k, c);
+        p += 1;
+        c = next_column(k, c);
+        i += 1;
+    }
+}
+
+// Writes the words as a file with that line of names and k columns, if the table's own checks accepted them.
+pub(crate) fn write_file(
+    names: &[u8],
+    k: usize,
+    checked: Answer,
+    words: &[u32],
+    out: &mut [u8],
+) -> Answer
+    requires { ⌜ 0 < k ⌝ }
+    ensures answer { λ r. ⌜ r ≡ writeAnswer (now (names .entry)) k checked (now (words .entry)) (length (now (out .entry))) ⌝ }
+    ensures bytes { λ r. ⌜ now (out .exit) ≡ writeOut (now (names .entry)) k checked (now (words .entry)) (now (out .entry)) ⌝ }
+{
+    if let Answer::Refused { number, place } = checked {
+        return Answer::Refused {
+            number: number,
+            place: place,
+        };
+    }
+    let h = names.len();
+    if out.len() < h {
+        return Answer::Refused {
+            number: 17,
+            place: 0,
+        };
+    }
+    let room = out.len() - h;
+    let size = text_length(words, room);
+    if room < size {
+        return Answer::Refused {
+            number: 17,
+            place: 0,
+        };
+    }
+    put_names(names, out);
+    put_words(k, words, out, h);
+    Answer::Done(h + size)
+}
