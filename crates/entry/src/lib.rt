@@ -1,0 +1,104 @@
+// The C interface: include/gabzeril.h says each function's promise in plain words.
+use tables::Answer;
+ghost use mathlib.Core.Path.{_≡_};
+ghost use lib.ListN.{length};
+ghost use Rattle.tables.specs.Rules.{checkRule};
+ghost use Rattle.tables.specs.Tables.{checkTable};
+ghost use Rattle.tables.specs.Joining.{joinAnswer, joinPool};
+ghost use Rattle.tables.specs.Files.{readRule, readRuleOut, readPool, readPoolOut, writeRule, writeRuleOut, writePool, writePoolOut};
+ghost use Rattle.entry.specs.Interface.{answered, spanned};
+
+#[repr(C)]
+pub struct CAnswer {
+    pub number: u32,
+    pub place: usize,
+    pub value: usize,
+}
+
+#[repr(C)]
+pub struct CSpan {
+    pub start: usize,
+    pub length: usize,
+}
+
+fn c_answer(a: Answer) -> CAnswer
+    ensures { λ r. ⌜ r ≡ answered a ⌝ }
+{
+    match a {
+        Answer::Done(n) => CAnswer {
+            number: 0,
+            place: 0,
+            value: n,
+        },
+        Answer::Refused { number, place } => CAnswer {
+            number,
+            place,
+            value: 0,
+        },
+    }
+}
+
+#[no_mangle]
+pub extern "C" fn gabzeril_check_rule(rule: &[u32]) -> CAnswer
+    ensures { λ r. ⌜ r ≡ answered (checkRule (now (rule .entry))) ⌝ }
+{
+    c_answer(tables::check_rule(rule))
+}
+
+#[no_mangle]
+pub extern "C" fn gabzeril_check_table(table: &[u32]) -> CAnswer
+    ensures { λ r. ⌜ r ≡ answered (checkTable (now (table .entry))) ⌝ }
+{
+    c_answer(tables::check_table(table))
+}
+
+#[no_mangle]
+pub extern "C" fn gabzeril_join(pool: &mut [u32], used: usize, second: &[u32]) -> CAnswer
+    ensures answer { λ r. ⌜ r ≡ answered (joinAnswer (now (pool .entry)) used (now (second .entry))) ⌝ }
+    ensures words { λ r. ⌜ now (pool .exit) ≡ joinPool (now (pool .entry)) used (now (second .entry)) ⌝ }
+{
+    c_answer(tables::join(pool, used, second))
+}
+
+#[no_mangle]
+pub extern "C" fn gabzeril_device_rows(table: &[u32], device: u32) -> CSpan
+    ensures { λ r. ⌜ r ≡ spanned (now (table .entry)) device ⌝ }
+{
+    let s = tables::device_span(table, device);
+    CSpan {
+        start: s.start,
+        length: s.end - s.start,
+    }
+}
+
+#[no_mangle]
+pub extern "C" fn gabzeril_read_rule(file: &[u8], rule: &mut [u32]) -> CAnswer
+    ensures answer { λ r. ⌜ r ≡ answered (readRule (now (file .entry)) (length (now (rule .entry)))) ⌝ }
+    ensures words { λ r. ⌜ now (rule .exit) ≡ readRuleOut (now (file .entry)) (now (rule .entry)) ⌝ }
+{
+    c_answer(tables::read_rule(file, rule))
+}
+
+#[no_mangle]
+pub extern "C" fn gabzeril_read_pool(file: &[u8], table: &mut [u32]) -> CAnswer
+    ensures answer { λ r. ⌜ r ≡ answered (readPool (now (file .entry)) (length (now (table .entry)))) ⌝ }
+    ensures words { λ r. ⌜ now (table .exit) ≡ readPoolOut (now (file .entry)) (now (table .entry)) ⌝ }
+{
+    c_answer(tables::read_pool(file, table))
+}
+
+#[no_mangle]
+pub extern "C" fn gabzeril_write_rule(rule: &[u32], file: &mut [u8]) -> CAnswer
+    ensures answer { λ r. ⌜ r ≡ answered (writeRule (now (rule .entry)) (length (now (file .entry)))) ⌝ }
+    ensures bytes { λ r. ⌜ now (file .exit) ≡ writeRuleOut (now (rule .entry)) (now (file .entry)) ⌝ }
+{
+    c_answer(tables::write_rule(rule, file))
+}
+
+#[no_mangle]
+pub extern "C" fn gabzeril_write_pool(table: &[u32], file: &mut [u8]) -> CAnswer
+    ensures answer { λ r. ⌜ r ≡ answered (writePool (now (table .entry)) (length (now (file .entry)))) ⌝ }
+    ensures bytes { λ r. ⌜ now (file .exit) ≡ writePoolOut (now (table .entry)) (now (file .entry)) ⌝ }
+{
+    c_answer(tables::write_pool(table, file))
+}

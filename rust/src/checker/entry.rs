@@ -1,0 +1,117 @@
+//! The entries of an accepted rule, by meaning.
+
+#[derive(Clone, Copy, Debug)]
+pub enum Entry {
+    Not { child: usize },
+    And { left: usize, right: usize },
+    Or { left: usize, right: usize },
+    Implies { left: usize, right: usize },
+    Quantifier(Quantifier),
+    Comparison(Comparison),
+}
+
+#[derive(Clone, Copy, Debug)]
+pub struct Quantifier {
+    /// Kind 5; kind 6 otherwise.
+    pub every: bool,
+    pub body: usize,
+    /// The variable of the parent; none for roots.
+    pub under: Option<usize>,
+    pub name: u32,
+}
+
+#[derive(Clone, Copy, Debug)]
+pub struct Comparison {
+    pub relation: Relation,
+    pub left: usize,
+    pub right: Right,
+}
+
+#[derive(Clone, Copy, Debug)]
+pub enum Relation {
+    Equal,
+    Less,
+    AtMost,
+}
+
+#[derive(Clone, Copy, Debug)]
+pub enum Right {
+    Variable(usize),
+    Constant(u32),
+}
+
+impl Entry {
+    /// The meaning of four words that have passed checks 2 and 3.
+    pub fn from_words([kind, a, b, c]: [u32; 4]) -> Entry {
+        let (left, right) = (a as usize, b as usize);
+        let comparison = |relation| {
+            let right = if b == 0 { Right::Variable(c as usize) } else { Right::Constant(c) };
+            Entry::Comparison(Comparison { relation, left, right })
+        };
+        match kind {
+            1 => Entry::Not { child: left },
+            2 => Entry::And { left, right },
+            3 => Entry::Or { left, right },
+            4 => Entry::Implies { left, right },
+            5 | 6 => Entry::Quantifier(Quantifier {
+                every: kind == 5,
+                body: left,
+                under: right.checked_sub(1),
+                name: c,
+            }),
+            7 => comparison(Relation::Equal),
+            8 => comparison(Relation::Less),
+            _ => comparison(Relation::AtMost),
+        }
+    }
+
+    pub fn children(&self) -> Vec<usize> {
+        match *self {
+            Entry::Not { child } => vec![child],
+            Entry::And { left, right } | Entry::Or { left, right } | Entry::Implies { left, right } => {
+                vec![left, right]
+            }
+            Entry::Quantifier(quantifier) => vec![quantifier.body],
+            Entry::Comparison(_) => vec![],
+        }
+    }
+
+    pub fn quantifier(&self) -> Option<Quantifier> {
+        match *self {
+            Entry::Quantifier(quantifier) => Some(quantifier),
+            _ => None,
+        }
+    }
+
+    /// The variables that the entry uses, also in b of a quantifier.
+    pub fn variables(&self) -> Vec<usize> {
+        match *self {
+            Entry::Quantifier(quantifier) => quantifier.under.into_iter().collect(),
+            Entry::Comparison(comparison) => comparison.variables(),
+            _ => vec![],
+        }
+    }
+}
+
+impl Comparison {
+    pub fn variables(&self) -> Vec<usize> {
+        match self.right {
+            Right::Variable(right) => vec![self.left, right],
+            Right::Constant(_) => vec![self.left],
+        }
+    }
+
+    /// Whether it holds, given the value of each variable that it uses.
+    pub fn holds(&self, value: impl Fn(usize) -> u32) -> bool {
+        let left = value(self.left);
+        let right = match self.right {
+            Right::Variable(variable) => value(variable),
+            Right::Constant(constant) => constant,
+        };
+        match self.relation {
+            Relation::Equal => left == right,
+            Relation::Less => left < right,
+            Relation::AtMost => left <= right,
+        }
+    }
+}

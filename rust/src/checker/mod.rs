@@ -1,0 +1,39 @@
+//! The checker, written from the contract alone. It shares nothing with the library that it is compared
+//! with. Each call of the C interface has a function of the same name here, which gives the same answer
+//! and leaves the same content in its buffers.
+
+mod device;
+mod entry;
+mod files;
+mod files_entry;
+mod join;
+mod marks;
+mod part;
+mod reach;
+mod reading;
+mod report;
+mod rule;
+mod spare;
+mod table;
+mod tests_of_line;
+mod verdict;
+#[cfg(test)]
+mod worked;
+
+pub use device::{device_rows, devices_of};
+pub use entry::{Entry, Quantifier};
+pub use files::{read_pool, read_rule, write_pool, write_rule, POOL, RULE};
+pub use files_entry::check_files;
+pub use join::join;
+pub use marks::marks;
+pub use part::part;
+pub use report::{report, report_text, MOST_FILE_BYTES};
+pub use rule::{accepted_rule, check_rule, ENTRY_WORDS, MOST_ENTRIES, MOST_NESTED};
+pub use spare::spare_rows;
+pub use table::{accepted_table, check_table, Row, MOST_ROWS, ROW_WORDS};
+pub use verdict::verdict;
+
+/// The largest device, at or name.
+pub const MOST_NAME: u32 = 65_535;
+/// The largest value or constant.
+pub const MOST_VALUE: u32 = 2_147_483_647;

@@ -1,0 +1,59 @@
+//! Which rows a quantifier reaches, and with which bindings its body is then read.
+
+use super::entry::{Entry, Quantifier};
+use super::reading::Bindings;
+use super::rule::quantifiers_around;
+use super::table::{parent_of, Row};
+
+pub struct Reach<'a> {
+    entries: &'a [Entry],
+    rows: &'a [Row],
+    /// The quantifiers around each entry: the one at index v binds variable v there.
+    around: Vec<Vec<usize>>,
+    parents: Vec<Option<usize>>,
+}
+
+impl<'a> Reach<'a> {
+    pub fn new(entries: &'a [Entry], rows: &'a [Row]) -> Reach<'a> {
+        Reach {
+            entries,
+            rows,
+            around: quantifiers_around(entries),
+            parents: (0..rows.len()).map(|row| parent_of(rows, row)).collect(),
+        }
+    }
+
+    /// The quantifiers that reach the row, each with its bindings.
+    pub fn reaching(&self, row: usize) -> Vec<(Quantifier, Bindings)> {
+        let pair = |(place, entry): (usize, &Entry)| Some((entry.quantifier()?, self.bindings(place, row)?));
+        self.entries.iter().enumerate().filter_map(pair).collect()
+    }
+
+    /// If the quantifier at this place reaches the row: the variables along the chain bound to the row
+    /// and its ancestors, all others elsewhere.
+    fn bindings(&self, place: usize, row: usize) -> Option<Bindings> {
+        let quantifier = self.entries[place].quantifier()?;
+        if self.rows[row].name != quantifier.name {
+            return None;
+        }
+        let around = &self.around[place];
+        let mut bound = match (quantifier.under, self.parents[row]) {
+            (None, None) => vec![],
+            (Some(variable), Some(parent)) => self.bindings(around[variable], parent)?,
+            _ => return None,
+        };
+        bound.resize(around.len(), None);
+        bound.push(Some(row));
+        Some(bound)
+    }
+
+    pub fn is_reached(&self, row: usize) -> bool {
+        !self.reaching(row).is_empty()
+    }
+
+    /// Whether the row and all its ancestors pass a test.
+    pub fn with_ancestors(&self, row: usize, test: impl Fn(usize) -> bool) -> bool {
+        let mut line = std::iter::successors(Some(row), |&row| self.parents[row]);
+        line.all(test)
+    }
+}

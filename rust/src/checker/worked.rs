@@ -1,0 +1,74 @@
+//! The worked cases (a) to (l) of the contract, and the program's example.
+
+use super::marks::marks_of;
+use super::part::part_of;
+use super::*;
+use crate::answer::Answer;
+
+const A: [u32; 24] = [5, 1, 0, 1, 3, 2, 4, 0, 6, 3, 1, 2, 7, 1, 1, 1, 6, 5, 1, 2, 7, 1, 1, 2];
+const B: [u32; 36] = [
+    5, 1, 0, 1, 5, 2, 0, 1, 4, 3, 8, 0, 2, 4, 6, 0, 6, 5, 1, 2, 7, 2, 1, 2, 6, 7, 2, 2, 7, 2, 1, 2, 7, 0, 0,
+    1,
+];
+const D1: [u32; 15] = [1, 1, 0, 1, 11, 1, 2, 1, 2, 2, 1, 3, 1, 3, 101];
+const D2: [u32; 10] = [2, 1, 0, 1, 12, 2, 2, 1, 2, 1];
+const D3: [u32; 10] = [3, 1, 0, 1, 13, 3, 2, 1, 2, 3];
+const D4: [u32; 10] = [4, 1, 0, 1, 14, 4, 2, 1, 2, 2];
+
+/// The verdict, and the (device, at) of each marked row.
+fn verdict_and_marks(rule: &[u32], tables: &[&[u32]]) -> (bool, Vec<(u32, u32)>) {
+    let pool = tables.concat();
+    let (found, bytes) = marks_of(rule, &pool).expect("accepted");
+    assert_eq!(verdict(rule, &pool), Answer::Done(found as usize));
+    let marked = pool.chunks(ROW_WORDS).zip(bytes).filter(|(_, mark)| *mark == 1);
+    (found, marked.map(|(row, _)| (row[0], row[1])).collect())
+}
+
+/// Quantifiers around one another, and a comparison.
+fn nested(quantifiers: u32) -> Vec<u32> {
+    let mut rule: Vec<u32> = (1..=quantifiers).flat_map(|body| [5, body, 0, 1]).collect();
+    rule.extend([7, 0, 1, 0]);
+    rule
+}
+
+#[test]
+fn rule_a() {
+    assert_eq!(verdict_and_marks(&A, &[]), (true, vec![])); // (a)
+    assert!(verdict_and_marks(&A, &[&D1, &D2]).0); // (b)
+    assert_eq!(verdict_and_marks(&A, &[&D1, &D2, &D3]), (false, vec![(3, 1), (3, 2)])); // (c)
+    assert_eq!(part_of(&A, &D1, 3), Ok(vec![])); // (d)
+    assert_eq!(part_of(&A, &D3, 3), Ok(D3[..5].to_vec())); // (e)
+}
+
+#[test]
+fn rule_b() {
+    assert_eq!(verdict_and_marks(&B, &[&D1, &D2]), (true, vec![(1, 1), (2, 1), (2, 2)])); // (f)
+    let marked = vec![(1, 1), (1, 2), (4, 1), (4, 2)];
+    assert_eq!(verdict_and_marks(&B, &[&D1, &D2, &D4]), (false, marked)); // (g)
+    assert_eq!(part_of(&B, &D1, 3), Ok(D1[..10].to_vec())); // (h)
+    assert_eq!(part_of(&B, &D2, 3), Ok(vec![]));
+}
+
+#[test]
+fn refusals() {
+    assert_eq!(check_table(&[1, 1, 0, 1, 2_147_483_647]), Answer::Done(1)); // (i)
+    assert_eq!(check_table(&[1, 1, 0, 1, 2_147_483_648]), Answer::refused(9, 0));
+    let doubled = [&D1[..], &[1, 4, 1, 2, 2]].concat();
+    assert_eq!(check_table(&doubled), Answer::refused(12, 3)); // (j)
+    assert_eq!(check_rule(&nested(8)), Answer::Done(9)); // (k)
+    assert_eq!(check_rule(&nested(9)), Answer::refused(6, 8));
+    let mut pool = [&D2[..], &[0; 20]].concat();
+    assert_eq!(join(&mut pool, D2.len(), &D1), Answer::refused(16, 0)); // (l)
+}
+
+#[test]
+fn program_example() {
+    let (rule, pool) = (RULE.text_of(&B), POOL.text_of(&[&D1[..], &D2[..]].concat()));
+    assert_eq!(report_text(&rule, &pool), "verdict rows branch full marks\n1 5 4 2 3\n");
+    assert_eq!(check_files(&rule, &pool), 1);
+    assert_eq!(report_text(&[], &pool), "refused place\n18 1\n");
+    let long = vec![b'x'; MOST_FILE_BYTES + 1];
+    assert_eq!(report_text(&long, &pool), "refused place\n1 0\n");
+    assert_eq!(report_text(&rule, &long), "refused place\n8 0\n");
+    assert_eq!(check_files(&rule, &long), 118);
+}

@@ -1,0 +1,67 @@
+//! Running seeded cases and counting the comparisons.
+
+pub mod calls;
+mod lent;
+mod tally;
+
+pub use lent::Lent;
+pub use tally::Tally;
+
+use crate::answer::Answer;
+use crate::ffi;
+use crate::random::Random;
+
+const DEFAULT_SEED: u64 = 20_260_101;
+
+/// One case, made from its own seed: run with that seed in `GABZERIL_SEED`, it is the first case.
+pub struct Case {
+    pub random: Random,
+    seed: u64,
+    tally: Tally,
+}
+
+/// Runs the cases; fails if they made fewer comparisons than promised. `test` sets the tests apart.
+pub fn run(test: &str, cases: u64, promised: u64, mut one: impl FnMut(&mut Case)) -> Tally {
+    let rounds = from_environment("GABZERIL_ROUNDS", 1);
+    let first = from_environment("GABZERIL_SEED", DEFAULT_SEED);
+    let mut tally = Tally::default();
+    for seed in (first..).take((cases * rounds) as usize) {
+        let mut case = Case::new(test, seed);
+        one(&mut case);
+        tally.add(&case.tally);
+    }
+    let compared = tally.compared;
+    assert!(compared >= promised * rounds, "{test}: {compared} comparisons, promised {promised}");
+    tally
+}
+
+fn from_environment(name: &str, default: u64) -> u64 {
+    match std::env::var(name) {
+        Ok(text) => text.parse().unwrap_or_else(|_| panic!("{name} is not a number: {text}")),
+        Err(_) => default,
+    }
+}
+
+impl Case {
+    fn new(test: &str, seed: u64) -> Case {
+        let name = test.bytes().fold(0, |sum: u64, byte| sum.wrapping_mul(257).wrapping_add(byte.into()));
+        let mut random = Random::new(name ^ Random::new(seed).draw());
+        ffi::null_for_empty(random.chance(50));
+        Case { random, seed, tally: Tally::default() }
+    }
+
+    /// Counts one comparison; fails if its outcome was not the expected one.
+    pub fn compared(&mut self, same: bool, expected: Answer, describe: impl FnOnce() -> String) {
+        self.tally.count(expected);
+        assert!(same, "GABZERIL_SEED={}: {}", self.seed, describe());
+    }
+}
+
+impl Drop for Case {
+    /// A failure outside `compared` also tells its seed.
+    fn drop(&mut self) {
+        if std::thread::panicking() {
+            eprintln!("failed in the case of GABZERIL_SEED={}", self.seed);
+        }
+    }
+}

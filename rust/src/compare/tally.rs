@@ -1,0 +1,45 @@
+//! How many comparisons were made, by the answer expected.
+
+use crate::answer::Answer;
+
+#[derive(Clone, Debug, Default)]
+pub struct Tally {
+    pub compared: u64,
+    /// By the number of the refusal; 0 counts the accepted calls.
+    numbers: [u64; 20],
+    /// Accepted calls with the value 0, and with another.
+    values: [u64; 2],
+}
+
+impl Tally {
+    pub fn count(&mut self, expected: Answer) {
+        self.compared += 1;
+        self.numbers[expected.number() as usize] += 1;
+        if let Answer::Done(value) = expected {
+            self.values[(value > 0) as usize] += 1;
+        }
+    }
+
+    pub fn add(&mut self, other: &Tally) {
+        self.compared += other.compared;
+        for (sum, number) in self.numbers.iter_mut().zip(other.numbers) {
+            *sum += number;
+        }
+        for (sum, number) in self.values.iter_mut().zip(other.values) {
+            *sum += number;
+        }
+    }
+
+    /// Fails unless each of these refusals (0: accepted) was expected at least so often.
+    pub fn saw_each(&self, numbers: impl IntoIterator<Item = usize>, least: u64) {
+        for number in numbers {
+            let seen = self.numbers[number];
+            assert!(seen >= least, "refusal {number} was expected only {seen} times: {self:?}");
+        }
+    }
+
+    /// Fails unless accepted calls had the value 0, and another, at least so often.
+    pub fn saw_both_values(&self, least: u64) {
+        assert!(self.values.iter().all(|&seen| seen >= least), "values seen: {self:?}");
+    }
+}

@@ -1,0 +1,24 @@
+//! Lengths of output buffers, in words or bytes.
+
+use crate::random::Random;
+
+/// Each length around the answer: none, 1 less, the answer, 1 more, much longer.
+pub fn lengths_around(answer: usize) -> [usize; 5] {
+    [0, answer.saturating_sub(1), answer, answer + 1, answer + 700]
+}
+
+pub fn one_length_around(random: &mut Random, answer: usize) -> usize {
+    match random.below(8) {
+        0 => random.below(answer + 1),
+        1..=3 => answer + random.below(12),
+        _ => random.pick(&lengths_around(answer)),
+    }
+}
+
+/// At times each length around the answer, else three of them.
+pub fn some_lengths_around(random: &mut Random, answer: usize) -> Vec<usize> {
+    match random.below(6) {
+        0 => lengths_around(answer).to_vec(),
+        _ => (0..3).map(|_| one_length_around(random, answer)).collect(),
+    }
+}

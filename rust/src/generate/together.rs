@@ -1,0 +1,71 @@
+//! A rule and a pool that use the same names and values, and do not take long.
+
+use super::cost::{reading_cost, verdict_cost};
+use super::pools::{pool_of, PoolShape};
+use super::rules::{rule_of, RuleShape};
+use super::vocabulary::Vocabulary;
+use crate::checker::devices_of;
+use crate::random::Random;
+
+#[derive(Clone, Copy, Debug)]
+pub struct Together {
+    /// The most rows of the pool.
+    pub rows: usize,
+    /// The most work that the verdict or the reading of all devices may take.
+    pub cost: u64,
+}
+
+/// An accepted rule and an accepted pool.
+pub fn rule_and_pool(random: &mut Random, limit: Together) -> (Vec<u32>, Vec<u32>) {
+    loop {
+        let vocabulary = Vocabulary::new(random);
+        let mut shape = PoolShape::new(random);
+        shape.rows = shape.rows.min(limit.rows);
+        shape.devices = shape.devices.min(limit.rows.max(1));
+        let rule_shape = RuleShape::new(random);
+        let rule = rule_of(random, &vocabulary, rule_shape);
+        // A pool that takes too long is tried again with half its rows, down to a quarter.
+        for _ in 0..3 {
+            let pool = pool_of(random, &vocabulary, shape);
+            if verdict_cost(&rule, &pool) <= limit.cost {
+                return (rule, pool);
+            }
+            shape.rows /= 2;
+        }
+    }
+}
+
+/// An accepted rule and one device with many siblings: roots, and quantifiers over them inside one
+/// another; or children of one row.
+pub fn rule_and_siblings(random: &mut Random, limit: Together) -> (Vec<u32>, Vec<u32>) {
+    loop {
+        let vocabulary = Vocabulary::new(random);
+        let roots = random.pick(&[5, 80]);
+        let rows = random.between(4, limit.rows);
+        let any = PoolShape::with_rows(random, rows);
+        let shape = PoolShape { devices: 1, roots, spread: true, wide: true, ..any };
+        let table = pool_of(random, &vocabulary, shape);
+        let (entries, nested) = (random.between(3, 10), random.between(2, 3));
+        let shape = RuleShape { entries, nested, roots, ..RuleShape::new(random) };
+        let rule = rule_of(random, &vocabulary, shape);
+        if reading_cost(&rule, &table) <= limit.cost {
+            return (rule, table);
+        }
+    }
+}
+
+/// An accepted rule, and the tables of devices whose rows together are accepted; some have no rows.
+pub fn rule_and_devices(random: &mut Random, limit: Together) -> (Vec<u32>, Vec<Vec<u32>>) {
+    loop {
+        let (rule, pool) = rule_and_pool(random, limit);
+        let mut devices: Vec<Vec<u32>> = devices_of(&pool).into_iter().map(|own| own.to_vec()).collect();
+        let reading: u64 = devices.iter().fold(0, |cost, own| cost.saturating_add(reading_cost(&rule, own)));
+        if reading > limit.cost {
+            continue;
+        }
+        while random.chance(25) {
+            devices.insert(random.below(devices.len() + 1), vec![]);
+        }
+        return (rule, devices);
+    }
+}

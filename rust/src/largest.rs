@@ -1,0 +1,146 @@
+//! The largest accepted inputs, for calls on a small stack.
+
+use crate::checker::{MOST_ENTRIES, MOST_NAME, MOST_NESTED, MOST_ROWS, MOST_VALUE};
+
+const COMMON: u32 = 1;
+/// The name of the rows at the end of a table.
+const LAST: u32 = 2;
+const LAST_VALUE: u32 = MOST_ROWS as u32 - 1;
+
+/// Rules that go as deep as rules can.
+pub fn rules() -> Vec<Vec<u32>> {
+    let mut rules =
+        vec![quantifiers(), quantifiers_under_one_another(), nots(1, COMMON), nots(MOST_NESTED as u32, LAST)];
+    for kind in [2, 3, 4] {
+        rules.extend([deep_right(kind), deep_left(kind)]);
+    }
+    rules
+}
+
+/// Eight quantifiers around one another: some x that is the last row, and some y that is, and so on.
+fn quantifiers() -> Vec<u32> {
+    let mut rule = vec![];
+    for variable in 0..MOST_NESTED as u32 - 1 {
+        let place = 3 * variable;
+        rule.extend([6, place + 1, 0, LAST]);
+        rule.extend([2, place + 2, place + 3, 0]);
+        rule.extend([7, variable, 1, LAST_VALUE]);
+    }
+    let last = MOST_NESTED as u32 - 1;
+    rule.extend([6, 3 * last + 1, 0, LAST, 7, last, 1, LAST_VALUE]);
+    rule
+}
+
+/// Each ranges over the children of the row before.
+fn quantifiers_under_one_another() -> Vec<u32> {
+    let mut rule = vec![];
+    for variable in 0..MOST_NESTED as u32 {
+        rule.extend([6, variable + 1, variable, LAST]);
+    }
+    rule.extend([9, 0, 0, MOST_NESTED as u32 - 1]);
+    rule
+}
+
+/// One chain of 128 entries: quantifiers spread among nots, then a comparison.
+fn nots(quantifiers: u32, name: u32) -> Vec<u32> {
+    let entries = MOST_ENTRIES as u32;
+    let step = entries / quantifiers;
+    let mut rule = vec![];
+    for place in 0..entries - 1 {
+        let words = if place % step == 0 { [6, place + 1, 0, name] } else { [1, place + 1, 0, 0] };
+        rule.extend(words);
+    }
+    rule.extend([7, quantifiers - 1, 1, LAST_VALUE]);
+    rule
+}
+
+/// A quantifier and one chain of connectives: a comparison to the left, the rest to the right. No left
+/// side decides.
+fn deep_right(kind: u32) -> Vec<u32> {
+    let mut rule = vec![6, 1, 0, COMMON];
+    let least = if kind == 3 { [8, 0, 0, 0] } else { [7, 0, 0, 0] };
+    while rule.len() / 4 + 2 < MOST_ENTRIES {
+        let place = rule.len() as u32 / 4;
+        rule.extend([kind, place + 1, place + 2, 0]);
+        rule.extend(least);
+    }
+    rule.extend([7, 0, 1, LAST_VALUE]);
+    rule
+}
+
+/// The same with the rest to the left.
+fn deep_left(kind: u32) -> Vec<u32> {
+    let mut rule = vec![6, 1, 0, COMMON];
+    while rule.len() / 4 + 2 < MOST_ENTRIES {
+        let place = rule.len() as u32 / 4;
+        rule.extend([kind, place + 2, place + 1, 0]);
+        rule.extend([9, 0, 1, LAST_VALUE]);
+    }
+    rule.extend([7, 0, 1, LAST_VALUE]);
+    rule
+}
+
+/// Tables of one device with 1,024 rows.
+pub fn tables() -> Vec<Vec<u32>> {
+    let most = MOST_ROWS as u32;
+    vec![
+        table(|row| if row + 1 < most { [0, COMMON] } else { [0, LAST] }),
+        // A chain of eight at the end.
+        table(|row| match row {
+            row if row < most - 8 => [0, COMMON],
+            row if row == most - 8 => [0, LAST],
+            row => [row, LAST],
+        }),
+        // Each row under the one before.
+        table(|row| [row, COMMON]),
+        // All under the first.
+        table(|row| if row == 0 { [0, COMMON] } else { [1, LAST] }),
+    ]
+}
+
+/// A table whose last two rows have the same name: each quantifier decides at the second.
+pub fn table_of_two() -> Vec<u32> {
+    table(|row| if row + 2 < MOST_ROWS as u32 { [0, COMMON] } else { [0, LAST] })
+}
+
+/// Up and name of each row are given; its value is its place.
+fn table(up_and_name: impl Fn(u32) -> [u32; 2]) -> Vec<u32> {
+    let row = |row: u32| {
+        let [up, name] = up_and_name(row);
+        [1, row + 1, up, name, row]
+    };
+    (0..MOST_ROWS as u32).flat_map(row).collect()
+}
+
+/// The accepted pool with the longest file: every word has as many digits as it can.
+pub fn longest_pool() -> Vec<u32> {
+    let most = MOST_ROWS as u32;
+    let row = |row: u32| {
+        let at = MOST_NAME - most + 1 + row;
+        [MOST_NAME, at, if row == 0 { 0 } else { at - 1 }, MOST_NAME, MOST_VALUE - row]
+    };
+    (0..most).flat_map(row).collect()
+}
+
+#[cfg(test)]
+mod tests {
+    use super::*;
+    use crate::answer::Answer;
+    use crate::checker::{check_rule, check_table, verdict};
+
+    #[test]
+    fn all_are_accepted() {
+        for rule in rules() {
+            assert_eq!(check_rule(&rule), Answer::Done(rule.len() / 4));
+        }
+        for table in tables().into_iter().chain([table_of_two(), longest_pool()]) {
+            assert_eq!(check_table(&table), Answer::Done(MOST_ROWS));
+        }
+    }
+
+    #[test]
+    fn quantifiers_decide_at_the_last_rows() {
+        assert_eq!(verdict(&quantifiers(), &table_of_two()), Answer::Done(1));
+        assert_eq!(verdict(&quantifiers_under_one_another(), &tables()[1]), Answer::Done(1));
+    }
+}

@@ -1,0 +1,95 @@
+//! The parts, and demand 3 on lists of devices.
+#![cfg(feature = "parts")]
+
+use gabzeril_tests::checker;
+use gabzeril_tests::compare::{calls, run, Case};
+use gabzeril_tests::generate::*;
+
+#[test]
+fn accepted_rules_and_tables() {
+    let limit = Together { rows: 1_024, cost: 30_000 };
+    let tally = run("accepted_rules_and_tables", 9_000, 100_000, |case| {
+        let (rule, devices) = rule_and_devices(&mut case.random, limit);
+        for device in devices.into_iter().take(4) {
+            each_mode(case, &rule, &device);
+        }
+    });
+    tally.saw_each([0, 17], 20_000);
+    tally.saw_both_values(10_000);
+}
+
+fn each_mode(case: &mut Case, rule: &[u32], device: &[u32]) {
+    for mode in 1..=3 {
+        let words = sent(rule, device, mode);
+        for length in some_lengths_around(&mut case.random, words) {
+            let output = case.random.words(length);
+            calls::part(case, rule, device, mode, &output);
+        }
+    }
+}
+
+/// The words of the part.
+fn sent(rule: &[u32], device: &[u32], mode: u32) -> usize {
+    match checker::part(rule, device, mode, &mut vec![0; device.len()]) {
+        gabzeril_tests::answer::Answer::Done(rows) => rows * checker::ROW_WORDS,
+        _ => 0,
+    }
+}
+
+/// The row that decides may be any of many.
+#[test]
+fn devices_of_many_siblings() {
+    let limit = Together { rows: 30, cost: 60_000 };
+    let tally = run("devices_of_many_siblings", 20_000, 20_000, |case| {
+        let (rule, device) = rule_and_siblings(&mut case.random, limit);
+        let output = case.random.words(device.len());
+        calls::part(case, &rule, &device, 3, &output);
+    });
+    tally.saw_both_values(2_000);
+}
+
+#[test]
+fn refused_rules_and_tables() {
+    let tally = run("refused_rules_and_tables", 25_000, 20_000, |case| {
+        let random = &mut case.random;
+        let limit = Together { rows: random.pick(&[20, 40, 40, 200]), cost: 20_000 };
+        let (mut rule, mut table) = rule_and_pool(random, limit);
+        // A table of several devices is refused with 14; other faults come before and beside it.
+        if random.chance(30) {
+            rule = damaged_rule(random, &rule);
+        }
+        if random.chance(30) {
+            table = damaged_table(random, &table);
+        }
+        let mode = match random.chance(70) {
+            true => random.between(1, 3) as u32,
+            false => random.pick(&[0, 4, 5, 65_537, 1 << 31, u32::MAX]),
+        };
+        // A damage may leave both accepted, but far too long to read.
+        if reading_cost(&rule, &table) > 10 * limit.cost {
+            return;
+        }
+        let length = one_length_around(random, table.len());
+        let output = case.random.words(length);
+        calls::part(case, &rule, &table, mode, &output);
+    });
+    tally.saw_each(1..=14, 100);
+}
+
+#[cfg(all(feature = "lower", feature = "engine"))]
+#[test]
+fn lists_of_devices() {
+    use gabzeril_tests::answer::Answer;
+    use gabzeril_tests::demand3::{check_list, Calls};
+    use gabzeril_tests::ffi;
+
+    let calls = Calls { part: ffi::part, join: ffi::join, verdict: ffi::verdict, marks: ffi::marks };
+    let limit = Together { rows: 24, cost: 8_000 };
+    run("lists_of_devices", 100_000, 100_000, |case| {
+        let (rule, devices) = rule_and_devices(&mut case.random, limit);
+        let result = check_list(&calls, &mut case.random, &rule, &devices);
+        case.compared(result.is_ok(), Answer::Done(devices.len()), || {
+            format!("{rule:?} {devices:?}: {result:?}")
+        });
+    });
+}

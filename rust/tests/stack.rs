@@ -1,0 +1,116 @@
+//! Each call on the largest accepted inputs, in a thread with 128 KiB of stack. Buffers are on the heap.
+
+#[cfg(any(feature = "lower", feature = "engine", feature = "parts", feature = "files_entry"))]
+use gabzeril_tests::{checker, ffi, largest};
+
+/// Runs a call in a small thread.
+#[allow(dead_code)]
+fn on_a_small_stack<T: Send>(call: impl FnOnce() -> T + Send) -> T {
+    const BYTES: usize = 128 * 1_024;
+    std::thread::scope(|scope| {
+        let thread = std::thread::Builder::new().stack_size(BYTES);
+        thread.spawn_scoped(scope, call).expect("a thread").join().expect("the call returns")
+    })
+}
+
+#[cfg(feature = "lower")]
+#[test]
+fn checks() {
+    for rule in largest::rules() {
+        assert_eq!(on_a_small_stack(|| ffi::check_rule(&rule)), checker::check_rule(&rule));
+    }
+    for table in largest::tables() {
+        assert_eq!(on_a_small_stack(|| ffi::check_table(&table)), checker::check_table(&table));
+        assert_eq!(on_a_small_stack(|| ffi::device_rows(&table, 1)), checker::device_rows(&table, 1));
+    }
+}
+
+#[cfg(feature = "lower")]
+#[test]
+fn joining() {
+    for table in largest::tables() {
+        for used in [0, 5, 2_560, table.len()] {
+            let mut second = table[used..].to_vec();
+            // The rows behind become another device, each under the row before.
+            for (row, words) in second.chunks_mut(checker::ROW_WORDS).enumerate() {
+                words[0] = 2;
+                words[2] = if row == 0 { 0 } else { words[1] - 1 };
+            }
+            let mut expected = table.clone();
+            let answer = checker::join(&mut expected, used, &second);
+            let mut pool = table.clone();
+            assert_eq!(on_a_small_stack(|| ffi::join(&mut pool, used, &second)), answer);
+            assert_eq!(pool, expected);
+        }
+    }
+}
+
+#[cfg(feature = "lower")]
+#[test]
+fn files() {
+    let table = largest::longest_pool();
+    let text = checker::POOL.text_of(&table);
+    let mut file = vec![0; text.len()];
+    let answer = on_a_small_stack(|| ffi::write_pool(&table, &mut file));
+    assert_eq!((answer, &file), (checker::write_pool(&table, &mut vec![0; text.len()]), &text));
+    let mut words = vec![0; table.len()];
+    let answer = on_a_small_stack(|| ffi::read_pool(&text, &mut words));
+    assert_eq!((answer, &words), (checker::read_pool(&text, &mut vec![0; table.len()]), &table));
+    for rule in largest::rules() {
+        let text = checker::RULE.text_of(&rule);
+        let mut file = vec![0; text.len()];
+        let answer = on_a_small_stack(|| ffi::write_rule(&rule, &mut file));
+        assert_eq!((answer, &file), (checker::write_rule(&rule, &mut vec![0; text.len()]), &text));
+        let mut words = vec![0; rule.len()];
+        let answer = on_a_small_stack(|| ffi::read_rule(&text, &mut words));
+        assert_eq!((answer, &words), (checker::read_rule(&text, &mut vec![0; rule.len()]), &rule));
+    }
+}
+
+#[cfg(feature = "engine")]
+#[test]
+fn verdict_and_marks() {
+    for rule in largest::rules() {
+        for table in largest::tables().into_iter().chain([largest::table_of_two()]) {
+            let verdict = on_a_small_stack(|| ffi::verdict(&rule, &table));
+            assert_eq!(verdict, checker::verdict(&rule, &table), "{rule:?}");
+            let mut expected = vec![7; table.len() / checker::ROW_WORDS];
+            let answer = checker::marks(&rule, &table, &mut expected);
+            let mut marks = vec![7; table.len() / checker::ROW_WORDS];
+            assert_eq!(on_a_small_stack(|| ffi::marks(&rule, &table, &mut marks)), answer, "{rule:?}");
+            assert_eq!(marks, expected, "{rule:?}");
+        }
+    }
+}
+
+#[cfg(feature = "parts")]
+#[test]
+fn parts() {
+    for rule in largest::rules() {
+        for table in largest::tables() {
+            for mode in 1..=3 {
+                let mut expected = vec![7; table.len()];
+                let answer = checker::part(&rule, &table, mode, &mut expected);
+                let mut part = vec![7; table.len()];
+                let found = on_a_small_stack(|| ffi::part(&rule, &table, mode, &mut part));
+                assert_eq!((found, part), (answer, expected), "{rule:?} {mode}");
+            }
+        }
+    }
+}
+
+#[cfg(feature = "files_entry")]
+#[test]
+fn entry() {
+    for rule in largest::rules() {
+        for table in largest::tables().into_iter().chain([largest::longest_pool()]) {
+            let (rule, pool) = (checker::RULE.text_of(&rule), checker::POOL.text_of(&table));
+            let verdict = on_a_small_stack(|| ffi::check_files(&rule, &pool));
+            assert_eq!(verdict, checker::check_files(&rule, &pool));
+            let (mut text, mut expected) = (vec![7; 80], vec![7; 80]);
+            let bytes = on_a_small_stack(|| ffi::report(&rule, &pool, &mut text));
+            assert_eq!(bytes, checker::report(&rule, &pool, &mut expected));
+            assert_eq!(text, expected);
+        }
+    }
+}
