@@ -71,26 +71,6 @@ module _ (out₀ : List ℕ) (at w : ℕ) where
   pub place-end : (out : List ℕ) (i v : ℕ) → Placing out₀ at w out i v → v ≤ 9 → set out at (digitByte v) ≡ sets out₀ at (numberText w)
   place-end out i v t h = sym (t .rest ∙ ap (sets out at) (text-one v (omega arith)))
 
--- ---- the line of names
-pub record Copying (names out₀ out : List ℕ) (i : ℕ) : Type 0 where
-  pub within : i ≤ length names
-  pub len : length out ≡ length out₀
-  pub rest : sets out₀ 0 names ≡ sets out i (drop i names)
-
-module _ (names out₀ : List ℕ) where
-  pub copy-begin : Copying names out₀ out₀ 0
-  copy-begin = record { within = omega arith; len = refl; rest = refl }
-
-  pub copy-more : (out : List ℕ) (i : ℕ) → Copying names out₀ out i → i < length names → Copying names out₀ (set out i (getD names i 0)) (i + 1)
-  copy-more out i t l = record {
-    within = omega arith;
-    len = length-set out i (getD names i 0) ∙ t .len;
-    rest = t .rest ∙ ap (sets out i) (drop-cons names i 0 l) ∙ ap (λ (n : ℕ). sets (set out i (getD names i 0)) n (drop n names)) (sym (add-one i));
-  }
-
-  pub copy-end : (out : List ℕ) (i : ℕ) → Copying names out₀ out i → length names ≤ i → out ≡ sets out₀ 0 names
-  copy-end out i t l = sym (t .rest ∙ ap (sets out i) (drop-of-length-le names l))
-
 -- ---- the bytes that the words take
 pub record Measuring (ws : List ℕ) (room n i : ℕ) : Type 0 where
   pub within : i ≤ length ws

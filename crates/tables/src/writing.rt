@@ -40,14 +40,14 @@ fn put_number(out: &mut [u8], at: usize, w: u32) -> usize
     end
 }
 
-// Puts the line of names at the start.
-fn put_names(names: &[u8], out: &mut [u8])
-    requires { ⌜ length (now names) ≤ length (now out) ⌝ }
-    ensures { λ _. ⌜ now (out .exit) ≡ sets (now (out .entry)) 0 (now (names .entry)) ⌝ }
+// Puts the bytes t at `at`.
+fn put_bytes(out: &mut [u8], at: usize, t: &[u8])
+    requires { ⌜ at + length (now t) ≤ length (now out) ⌝ }
+    ensures { λ _. ⌜ now (out .exit) ≡ sets (now (out .entry)) at (now (t .entry)) ⌝ }
 {
     let mut i = 0;
-    while i < names.len() {
-        out[i] = names[i];
+    while i < t.len() {
+        out[at + i] = t[i];
         i += 1;
     }
 }
@@ -119,7 +119,7 @@ pub(crate) fn write_file(
             place: 0,
         };
     }
-    put_names(names, out);
+    put_bytes(out, 0, names);
     put_words(k, words, out, h);
     Answer::Done(h + size)
 }

@@ -18,4 +18,4 @@ write-file-spec = tie.close (tie.spec
     (λ c κs. search needs)
     (λ c. search needs)
     (λ c. search needs)
-    (λ c. accept _ _ _ _ _ _ _ _ _ (c .before .before .before .before .before .before .before .before .before .before .before .enum-told .given .1) (omega (arith, c .before .before .before .before .before .before .before .before .before .text-length .ensures)) (omega (arith, c .before .before .before .before .before .before .before .before .before .text-length .ensures)) (c .before .before .before .before .before .before .put-names .ensures) (c .before .before .put-words .ensures)))
+    (λ c. accept _ _ _ _ _ _ _ _ _ (c .before .before .before .before .before .before .before .before .before .before .before .enum-told .given .1) (omega (arith, c .before .before .before .before .before .before .before .before .before .text-length .ensures)) (omega (arith, c .before .before .before .before .before .before .before .before .before .text-length .ensures)) (c .before .before .before .before .before .before .put-bytes .ensures) (c .before .before .put-words .ensures)))
