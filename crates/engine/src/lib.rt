@@ -1,4 +1,11 @@
 // Verdict and marks of a rule on a pool.
 mod bindings;
+mod calls;
+mod evaluator;
+mod ranges;
+mod reasons;
+mod words;
 
 pub use bindings::Bindings;
+pub use calls::marks;
+pub use calls::verdict;

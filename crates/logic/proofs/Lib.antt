@@ -14,3 +14,5 @@ pub mod Joinings
 pub mod Calls
 pub mod Demand
 pub mod Formulas
+pub mod Walks
+pub mod Reasons

@@ -1,0 +1,272 @@
+-- `engine::reasons::explain` and `engine::reasons::explain_rows`, which call each other, meet their contracts. Assumes nothing.
+use Prim.Native.Nat.{ℕ, _<_, _+_, _-_, _/_}
+use mathlib.Core.Path.{ap, _∙_}
+use borrow.Author.Needs.{needs}
+use native.Mathlib.Omega.{arith}
+use denote.Ref.{now}
+use lib.ListN.{length-set}
+use Rattle.tables.specs.Words.{entryCount, rowCount}
+use Rattle.engine.specs.Ready.{rangedFrom}
+use Rattle.engine.proofs.Falls.{entry-measure, rows-measure, below, falls-child, falls-rows, falls-body, falls-part}
+use Rattle.engine.proofs.Steps as steps
+use Rattle.engine.proofs.Explained as explained
+use Prim.Native.Nat.{ℕ, _<_}
+use borrow.Fn.Kinds.{In}
+use borrow.Fn.PlainCycle.{Measures, is, falls, and}
+use Rattle.engine.proofs.reasons.explain.Reads as explain
+use Rattle.engine.proofs.reasons.explain.Kinds as explain-kinds
+use Rattle.engine.proofs.reasons.+explain+explain_rows.Lts-explain as explain-lts
+use Rattle.engine.proofs.reasons.explain_rows.Reads as explain-rows
+use Rattle.engine.proofs.reasons.explain_rows.Kinds as explain-rows-kinds
+use Rattle.engine.proofs.reasons.+explain+explain_rows.Lts-explain_rows as explain-rows-lts
+use Rattle.engine.proofs.bindings.Bindings.bind.Reads as bind-reads
+use Rattle.engine.proofs.reasons.first_deciding.Reads as first-deciding-reads
+use Rattle.engine.proofs.reasons.mark_compared.Reads as mark-compared-reads
+use Rattle.engine.proofs.reasons.side.Reads as side-reads
+use Rattle.engine.proofs.ranges.next_ranged.Reads as next-ranged-reads
+use Rattle.engine.proofs.evaluator.holds.Reads as holds-reads
+use Rattle.engine.proofs.evaluator.left_decides.Reads as left-decides-reads
+use Rattle.engine.proofs.words.entry_at.Reads as entry-at-reads
+use Rattle.engine.proofs.words.row_count.Reads as row-count-reads
+use Rattle.engine.proofs.reasons.+explain+explain_rows.{statement}
+use Rattle.engine.proofs.reasons.+explain+explain_rows.Tie.{close}
+
+abbrev μ-explain : Measures 3 explain-kinds.ps ℕ
+μ-explain κs a = entry-measure (a .0 .now) (a .1 .0 .now) (a .1 .1 .1 .0)
+
+abbrev μ-explain-rows : Measures 3 explain-rows-kinds.ps ℕ
+μ-explain-rows κs a = rows-measure (a .0 .now) (a .1 .0 .now) (a .1 .1 .1 .0) (a .1 .1 .1 .1 .1 .0)
+
+abbrev explain-at : ℕ → In 3 explain-kinds.ps
+explain-at t = and 3 explain-kinds.ps (is 3 explain-kinds.ps μ-explain t) explain.Pre
+
+abbrev explain-below : ℕ → In 3 explain-kinds.ps
+explain-below t = and 3 explain-kinds.ps (falls 3 explain-kinds.ps _<_ μ-explain t) explain.Pre
+
+abbrev explain-rows-at : ℕ → In 3 explain-rows-kinds.ps
+explain-rows-at t =
+    and 3 explain-rows-kinds.ps (is 3 explain-rows-kinds.ps μ-explain-rows t) explain-rows.Pre
+
+abbrev explain-rows-below : ℕ → In 3 explain-rows-kinds.ps
+explain-rows-below t =
+    and
+    3
+    explain-rows-kinds.ps
+    (falls 3 explain-rows-kinds.ps _<_ μ-explain-rows t)
+    explain-rows.Pre
+
+abbrev explain-claims : ℕ → explain-lts.Claims
+explain-claims t = (entry-at-reads.Asked, entry-at-reads.Learnt, explain-below t, explain.Post, side-reads.Asked, side-reads.Learnt, holds-reads.Asked, holds-reads.Learnt, left-decides-reads.Asked, left-decides-reads.Learnt, row-count-reads.Asked, row-count-reads.Learnt, explain-rows-below t, explain-rows.Post, first-deciding-reads.Asked, first-deciding-reads.Learnt, bind-reads.Asked, bind-reads.Learnt, mark-compared-reads.Asked, mark-compared-reads.Learnt)
+
+explain-entry-at-requires : (t : ℕ) → explain-lts.Need-entry-at-requires (explain-claims t) (explain-at t) explain.Post
+explain-entry-at-requires t c κs =
+    let s = c .before .before .before in s .pre .1 .0 .inside
+
+explain-cast-a : (t : ℕ) → explain-lts.Need-cast-a (explain-claims t) (explain-at t) explain.Post
+explain-cast-a t c =
+    search needs
+
+explain-explain-requires : (t : ℕ) → explain-lts.Need-explain-requires (explain-claims t) (explain-at t) explain.Post
+explain-explain-requires t c κs =
+    let s = c .before .before .before .before .before .before .before .before in let l = steps.child-later (now (s .args .rule)) (now (s .args .pool)) (s .args .b) (s .args .entry) (s .pre .1 .0) (c .before .before .before .before .entry-at .result) (c .before .before .before .before .entry-at .ensures) (omega (arith, c .before .if1 .taken)) in (below (s .pre .0) (falls-child (entryCount (now (s .args .rule))) (rowCount (now (s .args .pool))) (s .args .entry) _ (l .0) (l .1)), (steps.child-ready (now (s .args .rule)) (now (s .args .pool)) (s .args .b) (s .args .entry) (s .pre .1 .0) (c .before .before .before .before .entry-at .result) (c .before .before .before .before .entry-at .ensures) (omega (arith, c .before .if1 .taken)), (explained.not-side (now (s .args .rule)) (now (s .args .pool)) (s .args .b) (s .args .entry) (s .pre .1 .0) (c .before .before .before .before .entry-at .result) (c .before .before .before .before .entry-at .ensures) (s .args .verdict) (s .pre .1 .1 .0) (c .before .if1 .taken), s .pre .1 .1 .1)))
+
+explain-same-length : (t : ℕ) → explain-lts.Need-same-length (explain-claims t) (explain-at t) explain.Post
+explain-same-length t c =
+    let s = c .before .before .before .before .before .before .before .before .before .before .before in c .before .before .explain .kept .1 .1 .1 .1 .1 .0
+
+explain-returns : (t : ℕ) → explain-lts.Need-returns (explain-claims t) (explain-at t) explain.Post
+explain-returns t c =
+    let s = c .before .before .before .before .before .before .before .before .before .before .before in explained.not-marked (now (s .args .rule)) (now (s .args .pool)) (s .args .b) (s .args .entry) (s .pre .1 .0) (c .before .before .before .before .before .before .before .entry-at .result) (c .before .before .before .before .before .before .before .entry-at .ensures) (s .args .verdict) (s .pre .1 .1 .0) (c .before .before .before .before .if1 .taken) (now (s .args .out)) _ (c .before .before .explain .ensures)
+
+explain-cast-second : (t : ℕ) → explain-lts.Need-cast-second (explain-claims t) (explain-at t) explain.Post
+explain-cast-second t c =
+    search needs
+
+explain-side-requires : (t : ℕ) → explain-lts.Need-side-requires (explain-claims t) (explain-at t) explain.Post
+explain-side-requires t c κs =
+    search needs
+
+explain-explain-requires-2 : (t : ℕ) → explain-lts.Need-explain-requires-2 (explain-claims t) (explain-at t) explain.Post
+explain-explain-requires-2 t c κs =
+    let s = c .before .before .before .before .before .before .before .before .before .before .before .before .before .before in let l = steps.child-later (now (s .args .rule)) (now (s .args .pool)) (s .args .b) (s .args .entry) (s .pre .1 .0) (c .before .before .before .before .before .before .before .before .before .before .entry-at .result) (c .before .before .before .before .before .before .before .before .before .before .entry-at .ensures) (c .before .before .before .before .before .if2 .taken) in (below (s .pre .0) (falls-child (entryCount (now (s .args .rule))) (rowCount (now (s .args .pool))) (s .args .entry) _ (l .0) (l .1)), (steps.child-ready (now (s .args .rule)) (now (s .args .pool)) (s .args .b) (s .args .entry) (s .pre .1 .0) (c .before .before .before .before .before .before .before .before .before .before .entry-at .result) (c .before .before .before .before .before .before .before .before .before .before .entry-at .ensures) (c .before .before .before .before .before .if2 .taken), (explained.both-left-verdict (now (s .args .rule)) (now (s .args .pool)) (s .args .b) (s .args .entry) (s .pre .1 .0) (c .before .before .before .before .before .before .before .before .before .before .entry-at .result) (c .before .before .before .before .before .before .before .before .before .before .entry-at .ensures) (s .args .verdict) (s .pre .1 .1 .0) (c .before .before .before .before .before .before .before .if1 .left) (c .before .before .before .before .before .if2 .taken) (c .before .before .if3 .taken) _ (c .before .side .ensures), s .pre .1 .1 .1)))
+
+explain-explain-requires-3 : (t : ℕ) → explain-lts.Need-explain-requires-3 (explain-claims t) (explain-at t) explain.Post
+explain-explain-requires-3 t c κs =
+    let s = c .before .before .before .before .before .before .before .before .before .before .before .before .before .before .before .before .before .before in let l = steps.right-later (now (s .args .rule)) (now (s .args .pool)) (s .args .b) (s .args .entry) (s .pre .1 .0) (c .before .before .before .before .before .before .before .before .before .before .before .before .before .before .entry-at .result) (c .before .before .before .before .before .before .before .before .before .before .before .before .before .before .entry-at .ensures) (c .before .before .before .before .before .before .before .before .before .before .before .if1 .left) (c .before .before .before .before .before .before .before .before .before .if2 .taken) in (below (s .pre .0) (falls-child (entryCount (now (s .args .rule))) (rowCount (now (s .args .pool))) (s .args .entry) _ (l .0) (l .1)), (steps.right-ready (now (s .args .rule)) (now (s .args .pool)) (s .args .b) (s .args .entry) (s .pre .1 .0) (c .before .before .before .before .before .before .before .before .before .before .before .before .before .before .entry-at .result) (c .before .before .before .before .before .before .before .before .before .before .before .before .before .before .entry-at .ensures) (c .before .before .before .before .before .before .before .before .before .before .before .if1 .left) (c .before .before .before .before .before .before .before .before .before .if2 .taken), (explained.both-right-verdict (now (s .args .rule)) (now (s .args .pool)) (s .args .b) (s .args .entry) (s .pre .1 .0) (c .before .before .before .before .before .before .before .before .before .before .before .before .before .before .entry-at .result) (c .before .before .before .before .before .before .before .before .before .before .before .before .before .before .entry-at .ensures) (s .args .verdict) (s .pre .1 .1 .0) (c .before .before .before .before .before .before .before .before .before .before .before .if1 .left) (c .before .before .before .before .before .before .before .before .before .if2 .taken) (c .before .before .before .before .before .before .if3 .taken), omega (arith, s .pre .1 .1 .1, c .before .before .before .explain2 .kept .1 .1 .1 .1 .1 .0))))
+
+explain-same-length-2 : (t : ℕ) → explain-lts.Need-same-length-2 (explain-claims t) (explain-at t) explain.Post
+explain-same-length-2 t c =
+    let s = c .before .before .before .before .before .before .before .before .before .before .before .before .before .before .before .before .before .before .before .before .before in c .before .before .explain3 .kept .1 .1 .1 .1 .1 .0 ∙ c .before .before .before .before .before .before .explain2 .kept .1 .1 .1 .1 .1 .0
+
+explain-returns-2 : (t : ℕ) → explain-lts.Need-returns-2 (explain-claims t) (explain-at t) explain.Post
+explain-returns-2 t c =
+    let s = c .before .before .before .before .before .before .before .before .before .before .before .before .before .before .before .before .before .before .before .before .before in explained.both-marked (now (s .args .rule)) (now (s .args .pool)) (s .args .b) (s .args .entry) (s .pre .1 .0) (c .before .before .before .before .before .before .before .before .before .before .before .before .before .before .before .before .before .entry-at .result) (c .before .before .before .before .before .before .before .before .before .before .before .before .before .before .before .before .before .entry-at .ensures) (s .args .verdict) (s .pre .1 .1 .0) (c .before .before .before .before .before .before .before .before .before .before .before .before .before .before .if1 .left) (c .before .before .before .before .before .before .before .before .before .before .before .before .if2 .taken) (c .before .before .before .before .before .before .before .before .before .if3 .taken) (now (s .args .out)) _ _ (c .before .before .before .before .before .before .explain2 .ensures) (c .before .before .explain3 .ensures)
+
+explain-holds-requires : (t : ℕ) → explain-lts.Need-holds-requires (explain-claims t) (explain-at t) explain.Post
+explain-holds-requires t c κs =
+    let s = c .before .before .before .before .before .before .before .before .before .before .before .before in steps.child-ready (now (s .args .rule)) (now (s .args .pool)) (s .args .b) (s .args .entry) (s .pre .1 .0) (c .before .before .before .before .before .before .before .before .entry-at .result) (c .before .before .before .before .before .before .before .before .entry-at .ensures) (c .before .before .before .if2 .taken)
+
+explain-left-decides-requires : (t : ℕ) → explain-lts.Need-left-decides-requires (explain-claims t) (explain-at t) explain.Post
+explain-left-decides-requires t c κs =
+    search needs
+
+explain-explain-requires-4 : (t : ℕ) → explain-lts.Need-explain-requires-4 (explain-claims t) (explain-at t) explain.Post
+explain-explain-requires-4 t c κs =
+    let s = c .before .before .before .before .before .before .before .before .before .before .before .before .before .before .before .before in let l = steps.child-later (now (s .args .rule)) (now (s .args .pool)) (s .args .b) (s .args .entry) (s .pre .1 .0) (c .before .before .before .before .before .before .before .before .before .before .before .before .entry-at .result) (c .before .before .before .before .before .before .before .before .before .before .before .before .entry-at .ensures) (c .before .before .before .before .before .before .before .if2 .taken) in (below (s .pre .0) (falls-child (entryCount (now (s .args .rule))) (rowCount (now (s .args .pool))) (s .args .entry) _ (l .0) (l .1)), (steps.child-ready (now (s .args .rule)) (now (s .args .pool)) (s .args .b) (s .args .entry) (s .pre .1 .0) (c .before .before .before .before .before .before .before .before .before .before .before .before .entry-at .result) (c .before .before .before .before .before .before .before .before .before .before .before .before .entry-at .ensures) (c .before .before .before .before .before .before .before .if2 .taken), (c .before .before .before .holds .ensures, s .pre .1 .1 .1)))
+
+explain-same-length-3 : (t : ℕ) → explain-lts.Need-same-length-3 (explain-claims t) (explain-at t) explain.Post
+explain-same-length-3 t c =
+    let s = c .before .before .before .before .before .before .before .before .before .before .before .before .before .before .before .before .before .before .before in c .before .before .explain4 .kept .1 .1 .1 .1 .1 .0
+
+explain-returns-3 : (t : ℕ) → explain-lts.Need-returns-3 (explain-claims t) (explain-at t) explain.Post
+explain-returns-3 t c =
+    let s = c .before .before .before .before .before .before .before .before .before .before .before .before .before .before .before .before .before .before .before in explained.left-marked-only (now (s .args .rule)) (now (s .args .pool)) (s .args .b) (s .args .entry) (s .pre .1 .0) (c .before .before .before .before .before .before .before .before .before .before .before .before .before .before .before .entry-at .result) (c .before .before .before .before .before .before .before .before .before .before .before .before .before .before .before .entry-at .ensures) (s .args .verdict) (s .pre .1 .1 .0) (c .before .before .before .before .before .before .before .before .before .before .before .before .if1 .left) (c .before .before .before .before .before .before .before .before .before .before .if2 .taken) (c .before .before .before .before .before .before .before .if3 .left) _ _ (c .before .before .before .before .before .before .holds .ensures) (c .before .before .before .before .before .left-decides .ensures) (c .before .before .before .before .if4 .taken) (now (s .args .out)) _ (c .before .before .explain4 .ensures)
+
+explain-explain-requires-5 : (t : ℕ) → explain-lts.Need-explain-requires-5 (explain-claims t) (explain-at t) explain.Post
+explain-explain-requires-5 t c κs =
+    let s = c .before .before .before .before .before .before .before .before .before .before .before .before .before .before .before .before in let l = steps.right-later (now (s .args .rule)) (now (s .args .pool)) (s .args .b) (s .args .entry) (s .pre .1 .0) (c .before .before .before .before .before .before .before .before .before .before .before .before .entry-at .result) (c .before .before .before .before .before .before .before .before .before .before .before .before .entry-at .ensures) (c .before .before .before .before .before .before .before .before .before .if1 .left) (c .before .before .before .before .before .before .before .if2 .taken) in (below (s .pre .0) (falls-child (entryCount (now (s .args .rule))) (rowCount (now (s .args .pool))) (s .args .entry) _ (l .0) (l .1)), (steps.right-ready (now (s .args .rule)) (now (s .args .pool)) (s .args .b) (s .args .entry) (s .pre .1 .0) (c .before .before .before .before .before .before .before .before .before .before .before .before .entry-at .result) (c .before .before .before .before .before .before .before .before .before .before .before .before .entry-at .ensures) (c .before .before .before .before .before .before .before .before .before .if1 .left) (c .before .before .before .before .before .before .before .if2 .taken), (explained.last-verdict (now (s .args .rule)) (now (s .args .pool)) (s .args .b) (s .args .entry) (s .pre .1 .0) (c .before .before .before .before .before .before .before .before .before .before .before .before .entry-at .result) (c .before .before .before .before .before .before .before .before .before .before .before .before .entry-at .ensures) (s .args .verdict) (s .pre .1 .1 .0) (c .before .before .before .before .before .before .before .before .before .if1 .left) (c .before .before .before .before .before .before .before .if2 .taken) (c .before .before .before .before .if3 .left) _ _ (c .before .before .before .holds .ensures) (c .before .before .left-decides .ensures) (c .before .if4 .left), s .pre .1 .1 .1)))
+
+explain-same-length-4 : (t : ℕ) → explain-lts.Need-same-length-4 (explain-claims t) (explain-at t) explain.Post
+explain-same-length-4 t c =
+    let s = c .before .before .before .before .before .before .before .before .before .before .before .before .before .before .before .before .before .before .before in c .before .before .explain5 .kept .1 .1 .1 .1 .1 .0
+
+explain-returns-4 : (t : ℕ) → explain-lts.Need-returns-4 (explain-claims t) (explain-at t) explain.Post
+explain-returns-4 t c =
+    let s = c .before .before .before .before .before .before .before .before .before .before .before .before .before .before .before .before .before .before .before in explained.right-marked-only (now (s .args .rule)) (now (s .args .pool)) (s .args .b) (s .args .entry) (s .pre .1 .0) (c .before .before .before .before .before .before .before .before .before .before .before .before .before .before .before .entry-at .result) (c .before .before .before .before .before .before .before .before .before .before .before .before .before .before .before .entry-at .ensures) (s .args .verdict) (s .pre .1 .1 .0) (c .before .before .before .before .before .before .before .before .before .before .before .before .if1 .left) (c .before .before .before .before .before .before .before .before .before .before .if2 .taken) (c .before .before .before .before .before .before .before .if3 .left) _ _ (c .before .before .before .before .before .before .holds .ensures) (c .before .before .before .before .before .left-decides .ensures) (c .before .before .before .before .if4 .left) (now (s .args .out)) _ (c .before .before .explain5 .ensures)
+
+explain-row-count-requires : (t : ℕ) → explain-lts.Need-row-count-requires (explain-claims t) (explain-at t) explain.Post
+explain-row-count-requires t c κs =
+    search needs
+
+explain-explain-rows-requires : (t : ℕ) → explain-lts.Need-explain-rows-requires (explain-claims t) (explain-at t) explain.Post
+explain-explain-rows-requires t c κs =
+    let s = c .before .before .before .before .before .before .before .before .before .before .before .before .before .before .before in (below (s .pre .0) (falls-rows (entryCount (now (s .args .rule))) (rowCount (now (s .args .pool))) (s .args .entry) 0 (c .before .before .before .row-count .result) (s .pre .1 .0 .inside) (omega (arith, c .before .before .before .row-count .ensures))), ((steps.rows-ready (now (s .args .rule)) (now (s .args .pool)) (s .args .b) (s .args .entry) (s .pre .1 .0) (c .before .before .before .before .before .before .before .before .before .before .before .entry-at .result) (c .before .before .before .before .before .before .before .before .before .before .before .entry-at .ensures) (c .before .before .before .before .before .before .if2 .left) (c .before .before .before .before .if5 .taken) 0 (c .before .before .before .row-count .result) (omega (arith, c .before .before .before .row-count .ensures))), (explained.all-settled (now (s .args .rule)) (now (s .args .pool)) (s .args .b) (s .args .entry) 0 (c .before .before .before .row-count .result) (steps.rows-ready (now (s .args .rule)) (now (s .args .pool)) (s .args .b) (s .args .entry) (s .pre .1 .0) (c .before .before .before .before .before .before .before .before .before .before .before .entry-at .result) (c .before .before .before .before .before .before .before .before .before .before .before .entry-at .ensures) (c .before .before .before .before .before .before .if2 .left) (c .before .before .before .before .if5 .taken) 0 (c .before .before .before .row-count .result) (omega (arith, c .before .before .before .row-count .ensures))) (c .before .before .before .before .before .before .before .before .before .before .before .entry-at .result) (c .before .before .before .before .before .before .before .before .before .before .before .entry-at .ensures) (s .args .verdict) (s .pre .1 .1 .0) (ap (λ (n : ℕ). rangedFrom (now (s .args .rule)) (now (s .args .pool)) (s .args .b) (s .args .entry) 0 n) (c .before .before .before .row-count .ensures)) (c .before .if6 .taken), s .pre .1 .1 .1)))
+
+explain-same-length-5 : (t : ℕ) → explain-lts.Need-same-length-5 (explain-claims t) (explain-at t) explain.Post
+explain-same-length-5 t c =
+    let s = c .before .before .before .before .before .before .before .before .before .before .before .before .before .before .before .before .before .before in c .before .before .explain-rows .kept .1 .1 .1 .1 .1 .1 .0
+
+explain-returns-5 : (t : ℕ) → explain-lts.Need-returns-5 (explain-claims t) (explain-at t) explain.Post
+explain-returns-5 t c =
+    let s = c .before .before .before .before .before .before .before .before .before .before .before .before .before .before .before .before .before .before in explained.all-marked (now (s .args .rule)) (now (s .args .pool)) (s .args .b) (s .args .entry) 0 (c .before .before .before .before .before .before .row-count .result) (steps.rows-ready (now (s .args .rule)) (now (s .args .pool)) (s .args .b) (s .args .entry) (s .pre .1 .0) (c .before .before .before .before .before .before .before .before .before .before .before .before .before .before .entry-at .result) (c .before .before .before .before .before .before .before .before .before .before .before .before .before .before .entry-at .ensures) (c .before .before .before .before .before .before .before .before .before .if2 .left) (c .before .before .before .before .before .before .before .if5 .taken) 0 (c .before .before .before .before .before .before .row-count .result) (omega (arith, c .before .before .before .before .before .before .row-count .ensures))) (c .before .before .before .before .before .before .before .before .before .before .before .before .before .before .entry-at .result) (c .before .before .before .before .before .before .before .before .before .before .before .before .before .before .entry-at .ensures) (s .args .verdict) (s .pre .1 .1 .0) (ap (λ (n : ℕ). rangedFrom (now (s .args .rule)) (now (s .args .pool)) (s .args .b) (s .args .entry) 0 n) (c .before .before .before .before .before .before .row-count .ensures)) (c .before .before .before .before .if6 .taken) (now (s .args .out)) _ (c .before .before .explain-rows .ensures)
+
+explain-first-deciding-requires : (t : ℕ) → explain-lts.Need-first-deciding-requires (explain-claims t) (explain-at t) explain.Post
+explain-first-deciding-requires t c κs =
+    let s = c .before .before .before .before .before .before .before .before .before .before .before .before .before .before in (steps.rows-ready (now (s .args .rule)) (now (s .args .pool)) (s .args .b) (s .args .entry) (s .pre .1 .0) (c .before .before .before .before .before .before .before .before .before .before .entry-at .result) (c .before .before .before .before .before .before .before .before .before .before .entry-at .ensures) (c .before .before .before .before .before .if2 .left) (c .before .before .before .if5 .taken) 0 (c .before .before .row-count .result) (omega (arith, c .before .before .row-count .ensures)))
+
+explain-slice-write-out : (t : ℕ) → explain-lts.Need-slice-write-out (explain-claims t) (explain-at t) explain.Post
+explain-slice-write-out t c =
+    let s = c .before .before .before .before .before .before .before .before .before .before .before .before .before .before .before in omega (arith, s .pre .1 .1 .1, explained.deciding-place (now (s .args .rule)) (now (s .args .pool)) (s .args .b) (s .args .entry) 0 (c .before .before .before .row-count .result) (steps.rows-ready (now (s .args .rule)) (now (s .args .pool)) (s .args .b) (s .args .entry) (s .pre .1 .0) (c .before .before .before .before .before .before .before .before .before .before .before .entry-at .result) (c .before .before .before .before .before .before .before .before .before .before .before .entry-at .ensures) (c .before .before .before .before .before .before .if2 .left) (c .before .before .before .before .if5 .taken) 0 (c .before .before .before .row-count .result) (omega (arith, c .before .before .before .row-count .ensures))) (c .before .before .before .before .before .before .before .before .before .before .before .entry-at .result) (c .before .before .before .before .before .before .before .before .before .before .before .entry-at .ensures) (s .args .verdict) (s .pre .1 .1 .0) (ap (λ (n : ℕ). rangedFrom (now (s .args .rule)) (now (s .args .pool)) (s .args .b) (s .args .entry) 0 n) (c .before .before .before .row-count .ensures)) (c .before .if6 .left) (c .first-deciding .result) (c .first-deciding .ensures), c .before .before .before .row-count .ensures)
+
+explain-add-bind : (t : ℕ) → explain-lts.Need-add-bind (explain-claims t) (explain-at t) explain.Post
+explain-add-bind t c =
+    let s = c .before .before .before .before .before .before .before .before .before .before .before .before .before .before .before in omega (arith, s .pre .1 .1 .1, explained.deciding-place (now (s .args .rule)) (now (s .args .pool)) (s .args .b) (s .args .entry) 0 (c .before .before .before .row-count .result) (steps.rows-ready (now (s .args .rule)) (now (s .args .pool)) (s .args .b) (s .args .entry) (s .pre .1 .0) (c .before .before .before .before .before .before .before .before .before .before .before .entry-at .result) (c .before .before .before .before .before .before .before .before .before .before .before .entry-at .ensures) (c .before .before .before .before .before .before .if2 .left) (c .before .before .before .before .if5 .taken) 0 (c .before .before .before .row-count .result) (omega (arith, c .before .before .before .row-count .ensures))) (c .before .before .before .before .before .before .before .before .before .before .before .entry-at .result) (c .before .before .before .before .before .before .before .before .before .before .before .entry-at .ensures) (s .args .verdict) (s .pre .1 .1 .0) (ap (λ (n : ℕ). rangedFrom (now (s .args .rule)) (now (s .args .pool)) (s .args .b) (s .args .entry) 0 n) (c .before .before .before .row-count .ensures)) (c .before .if6 .left) (c .first-deciding .result) (c .first-deciding .ensures), c .before .before .before .row-count .ensures)
+
+explain-bind-requires : (t : ℕ) → explain-lts.Need-bind-requires (explain-claims t) (explain-at t) explain.Post
+explain-bind-requires t c κs =
+    search needs
+
+explain-explain-requires-6 : (t : ℕ) → explain-lts.Need-explain-requires-6 (explain-claims t) (explain-at t) explain.Post
+explain-explain-requires-6 t c κs =
+    let s = c .before .before .before .before .before .before .before .before .before .before .before .before .before .before .before .before .before in let l = steps.body-later (now (s .args .rule)) (now (s .args .pool)) (s .args .b) (s .args .entry) 0 (c .before .before .before .before .before .row-count .result) (steps.rows-ready (now (s .args .rule)) (now (s .args .pool)) (s .args .b) (s .args .entry) (s .pre .1 .0) (c .before .before .before .before .before .before .before .before .before .before .before .before .before .entry-at .result) (c .before .before .before .before .before .before .before .before .before .before .before .before .before .entry-at .ensures) (c .before .before .before .before .before .before .before .before .if2 .left) (c .before .before .before .before .before .before .if5 .taken) 0 (c .before .before .before .before .before .row-count .result) (omega (arith, c .before .before .before .before .before .row-count .ensures))) (c .before .before .before .before .before .before .before .before .before .before .before .before .before .entry-at .result) (c .before .before .before .before .before .before .before .before .before .before .before .before .before .entry-at .ensures) in (below (s .pre .0) (falls-child (entryCount (now (s .args .rule))) (rowCount (now (s .args .pool))) (s .args .entry) _ (l .0) (l .1)), (steps.bound-ready (now (s .args .rule)) (now (s .args .pool)) (s .args .b) (s .args .entry) 0 (c .before .before .before .before .before .row-count .result) (steps.rows-ready (now (s .args .rule)) (now (s .args .pool)) (s .args .b) (s .args .entry) (s .pre .1 .0) (c .before .before .before .before .before .before .before .before .before .before .before .before .before .entry-at .result) (c .before .before .before .before .before .before .before .before .before .before .before .before .before .entry-at .ensures) (c .before .before .before .before .before .before .before .before .if2 .left) (c .before .before .before .before .before .before .if5 .taken) 0 (c .before .before .before .before .before .row-count .result) (omega (arith, c .before .before .before .before .before .row-count .ensures))) (c .before .before .before .before .before .before .before .before .before .before .before .before .before .entry-at .result) (c .before .before .before .before .before .before .before .before .before .before .before .before .before .entry-at .ensures) (c .before .before .first-deciding .result + 1) (omega (arith, explained.deciding-place (now (s .args .rule)) (now (s .args .pool)) (s .args .b) (s .args .entry) 0 (c .before .before .before .before .before .row-count .result) (steps.rows-ready (now (s .args .rule)) (now (s .args .pool)) (s .args .b) (s .args .entry) (s .pre .1 .0) (c .before .before .before .before .before .before .before .before .before .before .before .before .before .entry-at .result) (c .before .before .before .before .before .before .before .before .before .before .before .before .before .entry-at .ensures) (c .before .before .before .before .before .before .before .before .if2 .left) (c .before .before .before .before .before .before .if5 .taken) 0 (c .before .before .before .before .before .row-count .result) (omega (arith, c .before .before .before .before .before .row-count .ensures))) (c .before .before .before .before .before .before .before .before .before .before .before .before .before .entry-at .result) (c .before .before .before .before .before .before .before .before .before .before .before .before .before .entry-at .ensures) (s .args .verdict) (s .pre .1 .1 .0) (ap (λ (n : ℕ). rangedFrom (now (s .args .rule)) (now (s .args .pool)) (s .args .b) (s .args .entry) 0 n) (c .before .before .before .before .before .row-count .ensures)) (c .before .before .before .if6 .left) (c .before .before .first-deciding .result) (c .before .before .first-deciding .ensures), c .before .before .before .before .before .row-count .ensures)) _ (c .before .bind .ensures), (explained.deciding-verdict (now (s .args .rule)) (now (s .args .pool)) (s .args .b) (s .args .entry) 0 (c .before .before .before .before .before .row-count .result) (steps.rows-ready (now (s .args .rule)) (now (s .args .pool)) (s .args .b) (s .args .entry) (s .pre .1 .0) (c .before .before .before .before .before .before .before .before .before .before .before .before .before .entry-at .result) (c .before .before .before .before .before .before .before .before .before .before .before .before .before .entry-at .ensures) (c .before .before .before .before .before .before .before .before .if2 .left) (c .before .before .before .before .before .before .if5 .taken) 0 (c .before .before .before .before .before .row-count .result) (omega (arith, c .before .before .before .before .before .row-count .ensures))) (c .before .before .before .before .before .before .before .before .before .before .before .before .before .entry-at .result) (c .before .before .before .before .before .before .before .before .before .before .before .before .before .entry-at .ensures) (s .args .verdict) (s .pre .1 .1 .0) (ap (λ (n : ℕ). rangedFrom (now (s .args .rule)) (now (s .args .pool)) (s .args .b) (s .args .entry) 0 n) (c .before .before .before .before .before .row-count .ensures)) (c .before .before .before .if6 .left) (c .before .before .first-deciding .result) (c .before .before .first-deciding .ensures) _ (c .before .bind .ensures), simp length-set (s .pre .1 .1 .1))))
+
+explain-same-length-6 : (t : ℕ) → explain-lts.Need-same-length-6 (explain-claims t) (explain-at t) explain.Post
+explain-same-length-6 t c =
+    let s = c .before .before .before .before .before .before .before .before .before .before .before .before .before .before .before .before .before .before .before .before in c .before .before .explain6 .kept .1 .1 .1 .1 .1 .0 ∙ length-set (now (s .args .out)) (c .before .before .before .before .before .first-deciding .result) 1
+
+explain-returns-6 : (t : ℕ) → explain-lts.Need-returns-6 (explain-claims t) (explain-at t) explain.Post
+explain-returns-6 t c =
+    let s = c .before .before .before .before .before .before .before .before .before .before .before .before .before .before .before .before .before .before .before .before in explained.first-marked (now (s .args .rule)) (now (s .args .pool)) (s .args .b) (s .args .entry) 0 (c .before .before .before .before .before .before .before .before .row-count .result) (steps.rows-ready (now (s .args .rule)) (now (s .args .pool)) (s .args .b) (s .args .entry) (s .pre .1 .0) (c .before .before .before .before .before .before .before .before .before .before .before .before .before .before .before .before .entry-at .result) (c .before .before .before .before .before .before .before .before .before .before .before .before .before .before .before .before .entry-at .ensures) (c .before .before .before .before .before .before .before .before .before .before .before .if2 .left) (c .before .before .before .before .before .before .before .before .before .if5 .taken) 0 (c .before .before .before .before .before .before .before .before .row-count .result) (omega (arith, c .before .before .before .before .before .before .before .before .row-count .ensures))) (c .before .before .before .before .before .before .before .before .before .before .before .before .before .before .before .before .entry-at .result) (c .before .before .before .before .before .before .before .before .before .before .before .before .before .before .before .before .entry-at .ensures) (s .args .verdict) (s .pre .1 .1 .0) (ap (λ (n : ℕ). rangedFrom (now (s .args .rule)) (now (s .args .pool)) (s .args .b) (s .args .entry) 0 n) (c .before .before .before .before .before .before .before .before .row-count .ensures)) (c .before .before .before .before .before .before .if6 .left) (c .before .before .before .before .before .first-deciding .result) (c .before .before .before .before .before .first-deciding .ensures) _ (c .before .before .before .before .bind .ensures) (now (s .args .out)) _ (c .before .before .explain6 .ensures)
+
+explain-mark-compared-requires : (t : ℕ) → explain-lts.Need-mark-compared-requires (explain-claims t) (explain-at t) explain.Post
+explain-mark-compared-requires t c κs =
+    let s = c .before .before .before .before .before .before .before .before .before .before .before .before in ((steps.left-limit (now (s .args .rule)) (now (s .args .pool)) (s .args .b) (s .args .entry) (s .pre .1 .0) (c .before .before .before .before .before .before .before .before .entry-at .result) (c .before .before .before .before .before .before .before .before .entry-at .ensures) (c .before .if5 .left), steps.right-limit (now (s .args .rule)) (now (s .args .pool)) (s .args .b) (s .args .entry) (s .pre .1 .0) (c .before .before .before .before .before .before .before .before .entry-at .result) (c .before .before .before .before .before .before .before .before .entry-at .ensures) (c .before .if5 .left)), (λ v. omega (arith, s .pre .1 .1 .1, s .pre .1 .0 .placed .kept v)))
+
+explain-same-length-7 : (t : ℕ) → explain-lts.Need-same-length-7 (explain-claims t) (explain-at t) explain.Post
+explain-same-length-7 t c =
+    let s = c .before .before .before .before .before .before .before .before .before .before .before .before .before .before .before in c .before .before .mark-compared .kept .1 .1 .0
+
+explain-returns-7 : (t : ℕ) → explain-lts.Need-returns-7 (explain-claims t) (explain-at t) explain.Post
+explain-returns-7 t c =
+    let s = c .before .before .before .before .before .before .before .before .before .before .before .before .before .before .before in explained.compared-marked (now (s .args .rule)) (now (s .args .pool)) (s .args .b) (s .args .entry) (s .pre .1 .0) (c .before .before .before .before .before .before .before .before .before .before .before .entry-at .result) (c .before .before .before .before .before .before .before .before .before .before .before .entry-at .ensures) (s .args .verdict) (s .pre .1 .1 .0) (c .before .before .before .before .if5 .left) (now (s .args .out)) _ (c .before .before .mark-compared .ensures)
+
+abbrev explain-rows-claims : ℕ → explain-rows-lts.Claims
+explain-rows-claims t = (entry-at-reads.Asked, entry-at-reads.Learnt, next-ranged-reads.Asked, next-ranged-reads.Learnt, explain-rows-below t, explain-rows.Post, bind-reads.Asked, bind-reads.Learnt, explain-below t, explain.Post)
+
+explain-rows-entry-at-requires : (t : ℕ) → explain-rows-lts.Need-entry-at-requires (explain-rows-claims t) (explain-rows-at t) explain-rows.Post
+explain-rows-entry-at-requires t c κs =
+    let s = c .before .before .before in s .pre .1 .0 .ready .inside
+
+explain-rows-next-ranged-requires : (t : ℕ) → explain-rows-lts.Need-next-ranged-requires (explain-rows-claims t) (explain-rows-at t) explain-rows.Post
+explain-rows-next-ranged-requires t c κs =
+    let s = c .before .before .before .before in (s .pre .1 .0 .ready .placed, (steps.over-limit (now (s .args .rule)) (now (s .args .pool)) (s .args .b) (s .args .entry) (s .args .row) (s .args .rows) (s .pre .1 .0) (c .entry-at .result) (c .entry-at .ensures), s .pre .1 .0 .place))
+
+explain-rows-add-left : (t : ℕ) → explain-rows-lts.Need-add-left (explain-rows-claims t) (explain-rows-at t) explain-rows.Post
+explain-rows-add-left t c =
+    let s = c .before .before .before .before .before in omega (arith, s .pre .1 .0 .place)
+
+explain-rows-sub-left : (t : ℕ) → explain-rows-lts.Need-sub-left (explain-rows-claims t) (explain-rows-at t) explain-rows.Post
+explain-rows-sub-left t c =
+    let s = c .before .before .before .before .before in omega (arith, steps.next-place (now (s .args .rule)) (now (s .args .pool)) (s .args .b) (s .args .entry) (s .args .row) (s .args .rows) (s .pre .1 .0) (c .before .entry-at .result) (c .before .entry-at .ensures) (c .next-ranged .result) (c .next-ranged .ensures) .0, steps.next-place (now (s .args .rule)) (now (s .args .pool)) (s .args .b) (s .args .entry) (s .args .row) (s .args .rows) (s .pre .1 .0) (c .before .entry-at .result) (c .before .entry-at .ensures) (c .next-ranged .result) (c .next-ranged .ensures) .1, s .pre .1 .0 .place)
+
+explain-rows-returns : (t : ℕ) → explain-rows-lts.Need-returns (explain-rows-claims t) (explain-rows-at t) explain-rows.Post
+explain-rows-returns t c =
+    let s = c .before .before .before .before .before .before in explained.no-row-marked (now (s .args .rule)) (now (s .args .pool)) (s .args .b) (s .args .entry) (s .args .row) (s .args .rows) (s .pre .1 .0) (c .before .before .entry-at .result) (c .before .before .entry-at .ensures) (s .pre .1 .1 .0) (c .before .next-ranged .result) (c .before .next-ranged .ensures) (c .if1 .taken) (now (s .args .out))
+
+explain-rows-explain-rows-requires : (t : ℕ) → explain-rows-lts.Need-explain-rows-requires (explain-rows-claims t) (explain-rows-at t) explain-rows.Post
+explain-rows-explain-rows-requires t c κs =
+    let s = c .before .before .before .before .before .before .before .before in (below (s .pre .0) (falls-part (entryCount (now (s .args .rule))) (rowCount (now (s .args .pool))) (s .args .entry) 0 ((s .args .row + s .args .rows - c .before .before .before .next-ranged .result) / 2) (s .args .rows) (omega (arith, steps.next-place (now (s .args .rule)) (now (s .args .pool)) (s .args .b) (s .args .entry) (s .args .row) (s .args .rows) (s .pre .1 .0) (c .before .before .before .before .entry-at .result) (c .before .before .before .before .entry-at .ensures) (c .before .before .before .next-ranged .result) (c .before .before .before .next-ranged .ensures) .0, steps.next-place (now (s .args .rule)) (now (s .args .pool)) (s .args .b) (s .args .entry) (s .args .row) (s .args .rows) (s .pre .1 .0) (c .before .before .before .before .entry-at .result) (c .before .before .before .before .entry-at .ensures) (c .before .before .before .next-ranged .result) (c .before .before .before .next-ranged .ensures) .1, s .pre .1 .0 .place, c .before .if2 .taken))), (steps.part-ready (now (s .args .rule)) (now (s .args .pool)) (s .args .b) (s .args .entry) (s .args .row) (s .args .rows) (s .pre .1 .0) (c .before .before .before .next-ranged .result) ((s .args .row + s .args .rows - c .before .before .before .next-ranged .result) / 2) (omega (arith, steps.next-place (now (s .args .rule)) (now (s .args .pool)) (s .args .b) (s .args .entry) (s .args .row) (s .args .rows) (s .pre .1 .0) (c .before .before .before .before .entry-at .result) (c .before .before .before .before .entry-at .ensures) (c .before .before .before .next-ranged .result) (c .before .before .before .next-ranged .ensures) .0, steps.next-place (now (s .args .rule)) (now (s .args .pool)) (s .args .b) (s .args .entry) (s .args .row) (s .args .rows) (s .pre .1 .0) (c .before .before .before .before .entry-at .result) (c .before .before .before .before .entry-at .ensures) (c .before .before .before .next-ranged .result) (c .before .before .before .next-ranged .ensures) .1, s .pre .1 .0 .place)), (explained.first-half-settled (now (s .args .rule)) (now (s .args .pool)) (s .args .b) (s .args .entry) (s .args .row) (s .args .rows) (s .pre .1 .0) (c .before .before .before .before .entry-at .result) (c .before .before .before .before .entry-at .ensures) (s .pre .1 .1 .0) (c .before .before .before .next-ranged .result) (c .before .before .before .next-ranged .ensures) ((s .args .row + s .args .rows - c .before .before .before .next-ranged .result) / 2) (omega arith), s .pre .1 .1 .1)))
+
+explain-rows-add-explain-rows : (t : ℕ) → explain-rows-lts.Need-add-explain-rows (explain-rows-claims t) (explain-rows-at t) explain-rows.Post
+explain-rows-add-explain-rows t c =
+    let s = c .before .before .before .before .before .before .before .before .before .before .before in omega (arith, steps.next-place (now (s .args .rule)) (now (s .args .pool)) (s .args .b) (s .args .entry) (s .args .row) (s .args .rows) (s .pre .1 .0) (c .before .before .before .before .before .before .before .entry-at .result) (c .before .before .before .before .before .before .before .entry-at .ensures) (c .before .before .before .before .before .before .next-ranged .result) (c .before .before .before .before .before .before .next-ranged .ensures) .0, steps.next-place (now (s .args .rule)) (now (s .args .pool)) (s .args .b) (s .args .entry) (s .args .row) (s .args .rows) (s .pre .1 .0) (c .before .before .before .before .before .before .before .entry-at .result) (c .before .before .before .before .before .before .before .entry-at .ensures) (c .before .before .before .before .before .before .next-ranged .result) (c .before .before .before .before .before .before .next-ranged .ensures) .1, s .pre .1 .0 .place)
+
+explain-rows-sub-explain-rows : (t : ℕ) → explain-rows-lts.Need-sub-explain-rows (explain-rows-claims t) (explain-rows-at t) explain-rows.Post
+explain-rows-sub-explain-rows t c =
+    let s = c .before .before .before .before .before .before .before .before .before .before .before in omega (arith, steps.next-place (now (s .args .rule)) (now (s .args .pool)) (s .args .b) (s .args .entry) (s .args .row) (s .args .rows) (s .pre .1 .0) (c .before .before .before .before .before .before .before .entry-at .result) (c .before .before .before .before .before .before .before .entry-at .ensures) (c .before .before .before .before .before .before .next-ranged .result) (c .before .before .before .before .before .before .next-ranged .ensures) .0, steps.next-place (now (s .args .rule)) (now (s .args .pool)) (s .args .b) (s .args .entry) (s .args .row) (s .args .rows) (s .pre .1 .0) (c .before .before .before .before .before .before .before .entry-at .result) (c .before .before .before .before .before .before .before .entry-at .ensures) (c .before .before .before .before .before .before .next-ranged .result) (c .before .before .before .before .before .before .next-ranged .ensures) .1, s .pre .1 .0 .place)
+
+explain-rows-explain-rows-requires-2 : (t : ℕ) → explain-rows-lts.Need-explain-rows-requires-2 (explain-rows-claims t) (explain-rows-at t) explain-rows.Post
+explain-rows-explain-rows-requires-2 t c κs =
+    let s = c .before .before .before .before .before .before .before .before .before .before .before .before in (below (s .pre .0) (falls-part (entryCount (now (s .args .rule))) (rowCount (now (s .args .pool))) (s .args .entry) 0 ((s .args .row + s .args .rows - c .before .before .before .before .before .before .before .next-ranged .result) - ((s .args .row + s .args .rows - c .before .before .before .before .before .before .before .next-ranged .result) / 2)) (s .args .rows) (omega (arith, steps.next-place (now (s .args .rule)) (now (s .args .pool)) (s .args .b) (s .args .entry) (s .args .row) (s .args .rows) (s .pre .1 .0) (c .before .before .before .before .before .before .before .before .entry-at .result) (c .before .before .before .before .before .before .before .before .entry-at .ensures) (c .before .before .before .before .before .before .before .next-ranged .result) (c .before .before .before .before .before .before .before .next-ranged .ensures) .0, steps.next-place (now (s .args .rule)) (now (s .args .pool)) (s .args .b) (s .args .entry) (s .args .row) (s .args .rows) (s .pre .1 .0) (c .before .before .before .before .before .before .before .before .entry-at .result) (c .before .before .before .before .before .before .before .before .entry-at .ensures) (c .before .before .before .before .before .before .before .next-ranged .result) (c .before .before .before .before .before .before .before .next-ranged .ensures) .1, s .pre .1 .0 .place, c .before .before .before .before .before .if2 .taken))), (steps.part-ready (now (s .args .rule)) (now (s .args .pool)) (s .args .b) (s .args .entry) (s .args .row) (s .args .rows) (s .pre .1 .0) (c .before .before .before .before .before .before .before .next-ranged .result + ((s .args .row + s .args .rows - c .before .before .before .before .before .before .before .next-ranged .result) / 2)) ((s .args .row + s .args .rows - c .before .before .before .before .before .before .before .next-ranged .result) - ((s .args .row + s .args .rows - c .before .before .before .before .before .before .before .next-ranged .result) / 2)) (omega (arith, steps.next-place (now (s .args .rule)) (now (s .args .pool)) (s .args .b) (s .args .entry) (s .args .row) (s .args .rows) (s .pre .1 .0) (c .before .before .before .before .before .before .before .before .entry-at .result) (c .before .before .before .before .before .before .before .before .entry-at .ensures) (c .before .before .before .before .before .before .before .next-ranged .result) (c .before .before .before .before .before .before .before .next-ranged .ensures) .0, steps.next-place (now (s .args .rule)) (now (s .args .pool)) (s .args .b) (s .args .entry) (s .args .row) (s .args .rows) (s .pre .1 .0) (c .before .before .before .before .before .before .before .before .entry-at .result) (c .before .before .before .before .before .before .before .before .entry-at .ensures) (c .before .before .before .before .before .before .before .next-ranged .result) (c .before .before .before .before .before .before .before .next-ranged .ensures) .1, s .pre .1 .0 .place)), (explained.second-half-settled (now (s .args .rule)) (now (s .args .pool)) (s .args .b) (s .args .entry) (s .args .row) (s .args .rows) (s .pre .1 .0) (c .before .before .before .before .before .before .before .before .entry-at .result) (c .before .before .before .before .before .before .before .before .entry-at .ensures) (s .pre .1 .1 .0) (c .before .before .before .before .before .before .before .next-ranged .result) (c .before .before .before .before .before .before .before .next-ranged .ensures) ((s .args .row + s .args .rows - c .before .before .before .before .before .before .before .next-ranged .result) / 2) (omega arith), omega (arith, s .pre .1 .1 .1, c .before .before .before .explain-rows .kept .1 .1 .1 .1 .1 .1 .0))))
+
+explain-rows-same-length : (t : ℕ) → explain-rows-lts.Need-same-length (explain-rows-claims t) (explain-rows-at t) explain-rows.Post
+explain-rows-same-length t c =
+    let s = c .before .before .before .before .before .before .before .before .before .before .before .before .before .before .before in c .before .before .explain-rows2 .kept .1 .1 .1 .1 .1 .1 .0 ∙ c .before .before .before .before .before .before .explain-rows .kept .1 .1 .1 .1 .1 .1 .0
+
+explain-rows-returns-2 : (t : ℕ) → explain-rows-lts.Need-returns-2 (explain-rows-claims t) (explain-rows-at t) explain-rows.Post
+explain-rows-returns-2 t c =
+    let s = c .before .before .before .before .before .before .before .before .before .before .before .before .before .before .before in explained.halves-marked (now (s .args .rule)) (now (s .args .pool)) (s .args .b) (s .args .entry) (s .args .row) (s .args .rows) (s .pre .1 .0) (c .before .before .before .before .before .before .before .before .before .before .before .entry-at .result) (c .before .before .before .before .before .before .before .before .before .before .before .entry-at .ensures) (s .pre .1 .1 .0) (c .before .before .before .before .before .before .before .before .before .before .next-ranged .result) (c .before .before .before .before .before .before .before .before .before .before .next-ranged .ensures) ((s .args .row + s .args .rows - c .before .before .before .before .before .before .before .before .before .before .next-ranged .result) / 2) (omega arith) (now (s .args .out)) _ _ (c .before .before .before .before .before .before .explain-rows .ensures) (c .before .before .explain-rows2 .ensures)
+
+explain-rows-slice-write-out : (t : ℕ) → explain-rows-lts.Need-slice-write-out (explain-rows-claims t) (explain-rows-at t) explain-rows.Post
+explain-rows-slice-write-out t c =
+    let s = c .before .before .before .before .before .before .before in omega (arith, steps.next-place (now (s .args .rule)) (now (s .args .pool)) (s .args .b) (s .args .entry) (s .args .row) (s .args .rows) (s .pre .1 .0) (c .before .before .before .entry-at .result) (c .before .before .before .entry-at .ensures) (c .before .before .next-ranged .result) (c .before .before .next-ranged .ensures) .0, steps.next-place (now (s .args .rule)) (now (s .args .pool)) (s .args .b) (s .args .entry) (s .args .row) (s .args .rows) (s .pre .1 .0) (c .before .before .before .entry-at .result) (c .before .before .before .entry-at .ensures) (c .before .before .next-ranged .result) (c .before .before .next-ranged .ensures) .1, s .pre .1 .0 .place, s .pre .1 .1 .1, c .before .if1 .left)
+
+explain-rows-add-bind : (t : ℕ) → explain-rows-lts.Need-add-bind (explain-rows-claims t) (explain-rows-at t) explain-rows.Post
+explain-rows-add-bind t c =
+    let s = c .before .before .before .before .before .before .before in omega (arith, steps.next-place (now (s .args .rule)) (now (s .args .pool)) (s .args .b) (s .args .entry) (s .args .row) (s .args .rows) (s .pre .1 .0) (c .before .before .before .entry-at .result) (c .before .before .before .entry-at .ensures) (c .before .before .next-ranged .result) (c .before .before .next-ranged .ensures) .0, steps.next-place (now (s .args .rule)) (now (s .args .pool)) (s .args .b) (s .args .entry) (s .args .row) (s .args .rows) (s .pre .1 .0) (c .before .before .before .entry-at .result) (c .before .before .before .entry-at .ensures) (c .before .before .next-ranged .result) (c .before .before .next-ranged .ensures) .1, s .pre .1 .0 .place, c .before .if1 .left)
+
+explain-rows-bind-requires : (t : ℕ) → explain-rows-lts.Need-bind-requires (explain-rows-claims t) (explain-rows-at t) explain-rows.Post
+explain-rows-bind-requires t c κs =
+    search needs
+
+explain-rows-cast-explain : (t : ℕ) → explain-rows-lts.Need-cast-explain (explain-rows-claims t) (explain-rows-at t) explain-rows.Post
+explain-rows-cast-explain t c =
+    search needs
+
+explain-rows-explain-requires : (t : ℕ) → explain-rows-lts.Need-explain-requires (explain-rows-claims t) (explain-rows-at t) explain-rows.Post
+explain-rows-explain-requires t c κs =
+    let s = c .before .before .before .before .before .before .before .before .before .before .before in let l = steps.body-later (now (s .args .rule)) (now (s .args .pool)) (s .args .b) (s .args .entry) (s .args .row) (s .args .rows) (s .pre .1 .0) (c .before .before .before .before .before .before .before .entry-at .result) (c .before .before .before .before .before .before .before .entry-at .ensures) in (below (s .pre .0) (falls-body (entryCount (now (s .args .rule))) (rowCount (now (s .args .pool))) (s .args .entry) _ (s .args .rows) (l .0) (l .1)), (steps.bound-ready (now (s .args .rule)) (now (s .args .pool)) (s .args .b) (s .args .entry) (s .args .row) (s .args .rows) (s .pre .1 .0) (c .before .before .before .before .before .before .before .entry-at .result) (c .before .before .before .before .before .before .before .entry-at .ensures) (c .before .before .before .before .before .before .next-ranged .result + 1) (omega (arith, steps.next-place (now (s .args .rule)) (now (s .args .pool)) (s .args .b) (s .args .entry) (s .args .row) (s .args .rows) (s .pre .1 .0) (c .before .before .before .before .before .before .before .entry-at .result) (c .before .before .before .before .before .before .before .entry-at .ensures) (c .before .before .before .before .before .before .next-ranged .result) (c .before .before .before .before .before .before .next-ranged .ensures) .0, steps.next-place (now (s .args .rule)) (now (s .args .pool)) (s .args .b) (s .args .entry) (s .args .row) (s .args .rows) (s .pre .1 .0) (c .before .before .before .before .before .before .before .entry-at .result) (c .before .before .before .before .before .before .before .entry-at .ensures) (c .before .before .before .before .before .before .next-ranged .result) (c .before .before .before .before .before .before .next-ranged .ensures) .1, s .pre .1 .0 .place, c .before .before .before .before .before .if1 .left)) _ (c .before .before .before .bind .ensures), (explained.one-verdict (now (s .args .rule)) (now (s .args .pool)) (s .args .b) (s .args .entry) (s .args .row) (s .args .rows) (s .pre .1 .0) (c .before .before .before .before .before .before .before .entry-at .result) (c .before .before .before .before .before .before .before .entry-at .ensures) (s .pre .1 .1 .0) (c .before .before .before .before .before .before .next-ranged .result) (c .before .before .before .before .before .before .next-ranged .ensures) (omega (arith, c .before .before .before .before .before .if1 .left, c .before .before .before .before .if2 .left)) _ (c .before .before .before .bind .ensures), simp length-set (s .pre .1 .1 .1))))
+
+explain-rows-same-length-2 : (t : ℕ) → explain-rows-lts.Need-same-length-2 (explain-rows-claims t) (explain-rows-at t) explain-rows.Post
+explain-rows-same-length-2 t c =
+    let s = c .before .before .before .before .before .before .before .before .before .before .before .before .before .before in c .before .before .explain .kept .1 .1 .1 .1 .1 .0 ∙ length-set (now (s .args .out)) (c .before .before .before .before .before .before .before .before .before .next-ranged .result) 1
+
+explain-rows-returns-3 : (t : ℕ) → explain-rows-lts.Need-returns-3 (explain-rows-claims t) (explain-rows-at t) explain-rows.Post
+explain-rows-returns-3 t c =
+    let s = c .before .before .before .before .before .before .before .before .before .before .before .before .before .before in explained.one-marked (now (s .args .rule)) (now (s .args .pool)) (s .args .b) (s .args .entry) (s .args .row) (s .args .rows) (s .pre .1 .0) (c .before .before .before .before .before .before .before .before .before .before .entry-at .result) (c .before .before .before .before .before .before .before .before .before .before .entry-at .ensures) (s .pre .1 .1 .0) (c .before .before .before .before .before .before .before .before .before .next-ranged .result) (c .before .before .before .before .before .before .before .before .before .next-ranged .ensures) (omega (arith, c .before .before .before .before .before .before .before .before .if1 .left, c .before .before .before .before .before .before .before .if2 .left)) _ (c .before .before .before .before .before .before .bind .ensures) (now (s .args .out)) _ (c .before .before .explain .ensures)
+
+pub +explain+explain-rows-spec : {M : Type 1} → statement M
++explain+explain-rows-spec =
+    close μ-explain μ-explain-rows
+    (λ t. explain-lts.spec (explain-claims t) (explain-at t) explain.Post (explain-entry-at-requires t) (explain-cast-a t) (explain-explain-requires t) (explain-same-length t) (explain-returns t) (explain-cast-second t) (explain-side-requires t) (explain-explain-requires-2 t) (explain-explain-requires-3 t) (explain-same-length-2 t) (explain-returns-2 t) (explain-holds-requires t) (explain-left-decides-requires t) (explain-explain-requires-4 t) (explain-same-length-3 t) (explain-returns-3 t) (explain-explain-requires-5 t) (explain-same-length-4 t) (explain-returns-4 t) (explain-row-count-requires t) (explain-explain-rows-requires t) (explain-same-length-5 t) (explain-returns-5 t) (explain-first-deciding-requires t) (explain-slice-write-out t) (explain-add-bind t) (explain-bind-requires t) (explain-explain-requires-6 t) (explain-same-length-6 t) (explain-returns-6 t) (explain-mark-compared-requires t) (explain-same-length-7 t) (explain-returns-7 t))
+    (λ t. explain-rows-lts.spec (explain-rows-claims t) (explain-rows-at t) explain-rows.Post (explain-rows-entry-at-requires t) (explain-rows-next-ranged-requires t) (explain-rows-add-left t) (explain-rows-sub-left t) (explain-rows-returns t) (explain-rows-explain-rows-requires t) (explain-rows-add-explain-rows t) (explain-rows-sub-explain-rows t) (explain-rows-explain-rows-requires-2 t) (explain-rows-same-length t) (explain-rows-returns-2 t) (explain-rows-slice-write-out t) (explain-rows-add-bind t) (explain-rows-bind-requires t) (explain-rows-cast-explain t) (explain-rows-explain-requires t) (explain-rows-same-length-2 t) (explain-rows-returns-3 t))

@@ -1,0 +1,56 @@
+-- What the private functions that mark rows promise. A reader of the public contracts need not believe it. Assumes nothing.
+use Prim.Native.Nat.{ℕ, zero, suc}
+use mathlib.Core.Bool.{Bool, not, cond, _&&_}
+use mathlib.Core.List.{List, [], _∷_}
+use lib.ListN.{getD, set}
+use lib.Dec.{eqb}
+use Rattle.base.specs.Lists.{any, concatMap}
+use Rattle.tables.specs.Words.{rowAt, rows, entryAt}
+use Rattle.tables.specs.declared.Row.{Row}
+use Rattle.tables.specs.declared.Entry.{Entry}
+use Rattle.logic.specs.Formulas.{Connective, and, or, implies, formulaAt}
+use Rattle.logic.specs.Verdict as meaning
+use Rattle.logic.specs.Marks.{sameRow, reason, decides}
+use Rattle.engine.specs.Ready.{quantifierOf, meant, rangesAt, rangedFrom, bodyAt}
+use Rattle.engine.specs.declared.bindings.Bindings.{Bindings}
+
+-- the bytes m with 1 at each row of T that is among R
+unfoldable pub markRows : List Row → List Row → List ℕ → List ℕ
+markRows [] R m = m
+markRows (t ∷ T) R [] = []
+markRows (t ∷ T) R (x ∷ m) = cond (any (sameRow t) R) 1 x ∷ markRows T R m
+
+-- the pool's bytes m with 1 at each of its rows that is among R
+abbrev pub markIn : List ℕ → List Row → List ℕ → List ℕ
+markIn pool R m = markRows (rows pool) R m
+
+-- the bytes m with 1 at a place of the bindings
+abbrev pub markAt : ℕ → List ℕ → List ℕ
+markAt zero m = m
+markAt (suc i) m = set m i 1
+
+-- the bytes m with 1 at the places of a comparison's variables
+abbrev pub markCompared : Bindings → Entry → List ℕ → List ℕ
+markCompared b e m = cond (eqb (e .b) 0) (markAt (getD (b .row) (e .c) 0) (markAt (getD (b .row) (e .a) 0) m)) (markAt (getD (b .row) (e .a) 0) m)
+
+-- the reason of an entry
+abbrev pub reasonAt : List ℕ → List ℕ → Bindings → ℕ → List Row
+reasonAt rule pool b e = reason (formulaAt rule e) (rows pool) (b .depth) (meant pool b)
+
+-- the left side's verdict where it is in the reason of a connective with verdict v
+abbrev pub sideFor : Connective → Bool → Bool
+sideFor and v = v
+sideFor or v = v
+sideFor implies v = not v
+
+-- a row and its body's reason
+abbrev pub withBody : List ℕ → List ℕ → Bindings → ℕ → Row → List Row
+withBody rule pool b e r = r ∷ reason (formulaAt rule (entryAt rule e .a)) (rows pool) (suc (b .depth)) (meaning.bind (b .depth) (meaning.bound r) (meant pool b))
+
+-- those of each row ranged over, among k rows from row i on
+abbrev pub reasonFrom : List ℕ → List ℕ → Bindings → ℕ → ℕ → ℕ → List Row
+reasonFrom rule pool b e i k = concatMap (withBody rule pool b e) (rangedFrom rule pool b e i k)
+
+-- row j is ranged over and decides
+abbrev pub decidesAt : List ℕ → List ℕ → Bindings → ℕ → ℕ → Bool
+decidesAt rule pool b e j = rangesAt pool b (entryAt rule e) (rowAt pool j) && decides (quantifierOf (entryAt rule e .kind)) (bodyAt rule pool b e (rowAt pool j))
