@@ -6,6 +6,8 @@ ghost use Rattle.tables.specs.Rules.{checkRule};
 ghost use Rattle.tables.specs.Tables.{checkTable};
 ghost use Rattle.tables.specs.Joining.{joinAnswer, joinPool};
 ghost use Rattle.tables.specs.Files.{readRule, readRuleOut, readPool, readPoolOut, writeRule, writeRuleOut, writePool, writePoolOut};
+ghost use Rattle.logic.specs.Verdict.{verdictAnswer};
+ghost use Rattle.logic.specs.Marks.{marksAnswer, marksOut};
 ghost use Rattle.entry.specs.Interface.{answered, spanned};
 
 #[repr(C)]
@@ -101,4 +103,19 @@ pub extern "C" fn gabzeril_write_pool(table: &[u32], file: &mut [u8]) -> CAnswer
     ensures bytes { λ r. ⌜ now (file .exit) ≡ writePoolOut (now (table .entry)) (now (file .entry)) ⌝ }
 {
     c_answer(tables::write_pool(table, file))
+}
+
+#[no_mangle]
+pub extern "C" fn gabzeril_verdict(rule: &[u32], pool: &[u32]) -> CAnswer
+    ensures { λ r. ⌜ r ≡ answered (verdictAnswer (now (rule .entry)) (now (pool .entry))) ⌝ }
+{
+    c_answer(engine::verdict(rule, pool))
+}
+
+#[no_mangle]
+pub extern "C" fn gabzeril_marks(rule: &[u32], pool: &[u32], marks: &mut [u8]) -> CAnswer
+    ensures answer { λ r. ⌜ r ≡ answered (marksAnswer (now (rule .entry)) (now (pool .entry)) (length (now (marks .entry)))) ⌝ }
+    ensures bytes { λ r. ⌜ now (marks .exit) ≡ marksOut (now (rule .entry)) (now (pool .entry)) (now (marks .entry)) ⌝ }
+{
+    c_answer(engine::marks(rule, pool, marks))
 }
