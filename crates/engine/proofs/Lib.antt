@@ -2,6 +2,7 @@ pub mod Leaves
 pub mod Falls
 pub mod Bound
 pub mod Opened
+pub mod Runs
 pub mod Steps
 pub mod Marking
 pub mod Explained

@@ -17,7 +17,7 @@ use Rattle.logic.specs.Verdict as meaning
 use Rattle.logic.specs.Marks.{leftDecides}
 use Rattle.logic.proofs.Walks.{select-halves, select-one, select-from, select-none, both-settled, both-decided, fold-append, fold-one}
 use Rattle.engine.specs.Places.{bindAt, placeOf}
-use Rattle.engine.specs.Ready.{connectiveOf, quantifierOf, Placed, meant, comparedAt, rangesAt, Ready, verdictAt, ReadyRows, rangedFrom, bodyAt, verdictFrom}
+use Rattle.engine.specs.Ready.{connectiveOf, quantifierOf, Placed, meant, comparedAt, rangesAt, Covers, Ready, verdictAt, ReadyRows, rangedFrom, bodyAt, verdictFrom}
 use Rattle.engine.specs.declared.bindings.Bindings.{Bindings}
 use Rattle.engine.proofs.Bound.{depth-bind, placed-bind, meant-bind, place-row}
 use Rattle.engine.proofs.Opened.{Opened, opened, not-formula, joined-formula, quantified-formula, compared-formula}
@@ -127,6 +127,13 @@ module _ (rule pool : List ℕ) (b : Bindings) (e : ℕ) (ready : Ready rule poo
       below-seven = subst (λ (z : Entry). z .kind ≤ 6) x-is (omega arith);
       place = h;
     }
+
+    pub run-limit : x .b ≤ nestingLimit
+    run-limit = omega (arith, entry .over-bound high (omega arith), ready .depth-is, ready .placed .shallow)
+
+    -- a run of rows outside which the quantifier ranges over none
+    pub run-whole : (i k : ℕ) → Covers pool b x i k → rangedFrom rule pool b e i k ≡ rangedFrom rule pool b e 0 (rowCount pool)
+    run-whole i k c = subst (λ (z : Entry). select (rangesAt pool b z) (rowsFrom pool i k) ≡ select (rangesAt pool b z) (rows pool)) x-is (c .whole)
 
   -- kinds 7 to 9
   module _ (high : 7 ≤ x .kind) where

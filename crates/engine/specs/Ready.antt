@@ -1,7 +1,7 @@
 -- What the engine's private functions require and promise. A reader of the public contracts need not believe it. Assumes nothing.
 use Prim.Native.Nat.{ℕ, suc, _+_, _<_, _≤_}
 use mathlib.Core.Path.{_≡_}
-use mathlib.Core.Bool.{Bool, true, cond}
+use mathlib.Core.Bool.{Bool, true, not, cond}
 use mathlib.Core.List.{List}
 use lib.ListN.{length, getD}
 use lib.Dec.{eqb}
@@ -44,6 +44,15 @@ comparedAt pool b e = meaning.compare (comparisonOf (e .kind)) (meaning.valueAt 
 -- a quantifier's entry ranges over a row
 abbrev pub rangesAt : List ℕ → Bindings → Entry → Row → Bool
 rangesAt pool b e r = meaning.ranges (overOf (e .b)) (e .c) (meant pool b) r
+
+-- row i is of another device
+abbrev pub otherDevice : List ℕ → ℕ → ℕ → Bool
+otherDevice pool d i = not (eqb (rowAt pool i .device) d)
+
+-- it ranges over no row but some of the k from row i on
+pub record Covers (pool : List ℕ) (b : Bindings) (e : Entry) (i k : ℕ) : Type 0 where
+  pub place : i + k ≤ rowCount pool
+  pub whole : select (rangesAt pool b e) (rowsFrom pool i k) ≡ select (rangesAt pool b e) (rows pool)
 
 -- ---- an entry
 -- what evaluating an entry rests on

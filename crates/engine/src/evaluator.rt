@@ -1,9 +1,9 @@
 // The evaluator: the verdict of an entry, and the walk of a quantifier's rows.
 use super::bindings::Bindings;
 use super::ranges::next_ranged;
+use super::ranges::run_of;
 use super::words::entry_at;
 use super::words::place_of;
-use super::words::row_count;
 use super::words::value_at;
 use tables::Entry;
 ghost use mathlib.Core.Path.{_≡_};
@@ -76,7 +76,8 @@ pub(crate) fn holds(rule: &[u32], pool: &[u32], b: Bindings, entry: usize) -> bo
         return holds(rule, pool, b, e.b as usize);
     }
     if e.kind < 7 {
-        return walk(rule, pool, b, entry, 0, row_count(pool));
+        let r = run_of(pool, b, e);
+        return walk(rule, pool, b, entry, r.start, r.rows);
     }
     compared(pool, b, e)
 }

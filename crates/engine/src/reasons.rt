@@ -4,9 +4,9 @@ use super::evaluator::holds;
 use super::evaluator::left_decides;
 use super::ranges::next_ranged;
 use super::ranges::ranges;
+use super::ranges::run_of;
 use super::words::entry_at;
 use super::words::place_of;
-use super::words::row_count;
 use tables::Entry;
 ghost use mathlib.Core.Path.{_≡_};
 ghost use Prim.Native.Nat.{ℕ, _+_, _<_, _≤_};
@@ -122,12 +122,12 @@ pub(crate) fn explain(
         return;
     }
     if e.kind < 7 {
-        let n = row_count(pool);
+        let r = run_of(pool, b, e);
         if verdict == (e.kind == 5) {
-            explain_rows(rule, pool, b, entry, 0, n, out);
+            explain_rows(rule, pool, b, entry, r.start, r.rows, out);
             return;
         }
-        let row = first_deciding(rule, pool, b, entry, 0, n);
+        let row = first_deciding(rule, pool, b, entry, r.start, r.rows);
         out[row] = 1;
         explain(rule, pool, b.bind(row + 1), a, verdict, out);
         return;

@@ -104,8 +104,3 @@ module _ (q : Quantifier) (f : Row → Bool) where
 
   pub fold-one : (r : Row) → fold q f (r ∷ []) ≡ f r
   fold-one r = both-last q (f r)
-
-  -- a body that is settled at every row settles the quantifier
-  pub fold-all : (xs : List Row) → ((r : Row) → f r ≡ settled q) → fold q f xs ≡ settled q
-  fold-all [] h = refl
-  fold-all (x ∷ xs) h = both-settled q (f x) (fold q f xs) (h x) ∙ fold-all xs h

@@ -1,12 +1,11 @@
 -- `engine::reasons::explain` and `engine::reasons::explain_rows`, which call each other, meet their contracts. Assumes nothing.
 use Prim.Native.Nat.{ℕ, _<_, _+_, _-_, _/_}
-use mathlib.Core.Path.{ap, _∙_}
+use mathlib.Core.Path.{_∙_}
 use borrow.Author.Needs.{needs}
 use native.Mathlib.Omega.{arith}
 use denote.Ref.{now}
 use lib.ListN.{length-set}
 use Rattle.tables.specs.Words.{entryCount, rowCount}
-use Rattle.engine.specs.Ready.{rangedFrom}
 use Rattle.engine.proofs.Falls.{entry-measure, rows-measure, below, falls-child, falls-rows, falls-body, falls-part}
 use Rattle.engine.proofs.Steps as steps
 use Rattle.engine.proofs.Explained as explained
@@ -20,14 +19,14 @@ use Rattle.engine.proofs.reasons.explain_rows.Reads as explain-rows
 use Rattle.engine.proofs.reasons.explain_rows.Kinds as explain-rows-kinds
 use Rattle.engine.proofs.reasons.+explain+explain_rows.Lts-explain_rows as explain-rows-lts
 use Rattle.engine.proofs.bindings.Bindings.bind.Reads as bind-reads
+use Rattle.engine.proofs.evaluator.holds.Reads as holds-reads
+use Rattle.engine.proofs.evaluator.left_decides.Reads as left-decides-reads
+use Rattle.engine.proofs.ranges.next_ranged.Reads as next-ranged-reads
+use Rattle.engine.proofs.ranges.run_of.Reads as run-of-reads
 use Rattle.engine.proofs.reasons.first_deciding.Reads as first-deciding-reads
 use Rattle.engine.proofs.reasons.mark_compared.Reads as mark-compared-reads
 use Rattle.engine.proofs.reasons.side.Reads as side-reads
-use Rattle.engine.proofs.ranges.next_ranged.Reads as next-ranged-reads
-use Rattle.engine.proofs.evaluator.holds.Reads as holds-reads
-use Rattle.engine.proofs.evaluator.left_decides.Reads as left-decides-reads
 use Rattle.engine.proofs.words.entry_at.Reads as entry-at-reads
-use Rattle.engine.proofs.words.row_count.Reads as row-count-reads
 use Rattle.engine.proofs.reasons.+explain+explain_rows.{statement}
 use Rattle.engine.proofs.reasons.+explain+explain_rows.Tie.{close}
 
@@ -56,7 +55,7 @@ explain-rows-below t =
     explain-rows.Pre
 
 abbrev explain-claims : ℕ → explain-lts.Claims
-explain-claims t = (entry-at-reads.Asked, entry-at-reads.Learnt, explain-below t, explain.Post, side-reads.Asked, side-reads.Learnt, holds-reads.Asked, holds-reads.Learnt, left-decides-reads.Asked, left-decides-reads.Learnt, row-count-reads.Asked, row-count-reads.Learnt, explain-rows-below t, explain-rows.Post, first-deciding-reads.Asked, first-deciding-reads.Learnt, bind-reads.Asked, bind-reads.Learnt, mark-compared-reads.Asked, mark-compared-reads.Learnt)
+explain-claims t = (entry-at-reads.Asked, entry-at-reads.Learnt, explain-below t, explain.Post, side-reads.Asked, side-reads.Learnt, holds-reads.Asked, holds-reads.Learnt, left-decides-reads.Asked, left-decides-reads.Learnt, run-of-reads.Asked, run-of-reads.Learnt, explain-rows-below t, explain-rows.Post, first-deciding-reads.Asked, first-deciding-reads.Learnt, bind-reads.Asked, bind-reads.Learnt, mark-compared-reads.Asked, mark-compared-reads.Learnt)
 
 explain-entry-at-requires : (t : ℕ) → explain-lts.Need-entry-at-requires (explain-claims t) (explain-at t) explain.Post
 explain-entry-at-requires t c κs =
@@ -134,13 +133,13 @@ explain-returns-4 : (t : ℕ) → explain-lts.Need-returns-4 (explain-claims t) 
 explain-returns-4 t c =
     let s = c .before .before .before .before .before .before .before .before .before .before .before .before .before .before .before .before .before .before .before in explained.right-marked-only (now (s .args .rule)) (now (s .args .pool)) (s .args .b) (s .args .entry) (s .pre .1 .0) (c .before .before .before .before .before .before .before .before .before .before .before .before .before .before .before .entry-at .result) (c .before .before .before .before .before .before .before .before .before .before .before .before .before .before .before .entry-at .ensures) (s .args .verdict) (s .pre .1 .1 .0) (c .before .before .before .before .before .before .before .before .before .before .before .before .if1 .left) (c .before .before .before .before .before .before .before .before .before .before .if2 .taken) (c .before .before .before .before .before .before .before .if3 .left) _ _ (c .before .before .before .before .before .before .holds .ensures) (c .before .before .before .before .before .left-decides .ensures) (c .before .before .before .before .if4 .left) (now (s .args .out)) _ (c .before .before .explain5 .ensures)
 
-explain-row-count-requires : (t : ℕ) → explain-lts.Need-row-count-requires (explain-claims t) (explain-at t) explain.Post
-explain-row-count-requires t c κs =
-    search needs
+explain-run-of-requires : (t : ℕ) → explain-lts.Need-run-of-requires (explain-claims t) (explain-at t) explain.Post
+explain-run-of-requires t c κs =
+    let s = c .before .before .before .before .before .before .before .before .before .before .before in (s .pre .1 .0 .placed, (s .pre .1 .0 .pool-accepted, steps.run-limit (now (s .args .rule)) (now (s .args .pool)) (s .args .b) (s .args .entry) (s .pre .1 .0) (c .before .before .before .before .before .before .before .entry-at .result) (c .before .before .before .before .before .before .before .entry-at .ensures) (c .before .before .if2 .left) (c .if5 .taken)))
 
 explain-explain-rows-requires : (t : ℕ) → explain-lts.Need-explain-rows-requires (explain-claims t) (explain-at t) explain.Post
 explain-explain-rows-requires t c κs =
-    let s = c .before .before .before .before .before .before .before .before .before .before .before .before .before .before .before in (below (s .pre .0) (falls-rows (entryCount (now (s .args .rule))) (rowCount (now (s .args .pool))) (s .args .entry) 0 (c .before .before .before .row-count .result) (s .pre .1 .0 .inside) (omega (arith, c .before .before .before .row-count .ensures))), ((steps.rows-ready (now (s .args .rule)) (now (s .args .pool)) (s .args .b) (s .args .entry) (s .pre .1 .0) (c .before .before .before .before .before .before .before .before .before .before .before .entry-at .result) (c .before .before .before .before .before .before .before .before .before .before .before .entry-at .ensures) (c .before .before .before .before .before .before .if2 .left) (c .before .before .before .before .if5 .taken) 0 (c .before .before .before .row-count .result) (omega (arith, c .before .before .before .row-count .ensures))), (explained.all-settled (now (s .args .rule)) (now (s .args .pool)) (s .args .b) (s .args .entry) 0 (c .before .before .before .row-count .result) (steps.rows-ready (now (s .args .rule)) (now (s .args .pool)) (s .args .b) (s .args .entry) (s .pre .1 .0) (c .before .before .before .before .before .before .before .before .before .before .before .entry-at .result) (c .before .before .before .before .before .before .before .before .before .before .before .entry-at .ensures) (c .before .before .before .before .before .before .if2 .left) (c .before .before .before .before .if5 .taken) 0 (c .before .before .before .row-count .result) (omega (arith, c .before .before .before .row-count .ensures))) (c .before .before .before .before .before .before .before .before .before .before .before .entry-at .result) (c .before .before .before .before .before .before .before .before .before .before .before .entry-at .ensures) (s .args .verdict) (s .pre .1 .1 .0) (ap (λ (n : ℕ). rangedFrom (now (s .args .rule)) (now (s .args .pool)) (s .args .b) (s .args .entry) 0 n) (c .before .before .before .row-count .ensures)) (c .before .if6 .taken), s .pre .1 .1 .1)))
+    let s = c .before .before .before .before .before .before .before .before .before .before .before .before .before .before .before in (below (s .pre .0) (falls-rows (entryCount (now (s .args .rule))) (rowCount (now (s .args .pool))) (s .args .entry) 0 (c .before .before .before .run-of .result .rows) (s .pre .1 .0 .inside) (omega (arith, c .before .before .before .run-of .ensures .place))), ((steps.rows-ready (now (s .args .rule)) (now (s .args .pool)) (s .args .b) (s .args .entry) (s .pre .1 .0) (c .before .before .before .before .before .before .before .before .before .before .before .entry-at .result) (c .before .before .before .before .before .before .before .before .before .before .before .entry-at .ensures) (c .before .before .before .before .before .before .if2 .left) (c .before .before .before .before .if5 .taken) (c .before .before .before .run-of .result .start) (c .before .before .before .run-of .result .rows) (c .before .before .before .run-of .ensures .place)), (explained.all-settled (now (s .args .rule)) (now (s .args .pool)) (s .args .b) (s .args .entry) (c .before .before .before .run-of .result .start) (c .before .before .before .run-of .result .rows) (steps.rows-ready (now (s .args .rule)) (now (s .args .pool)) (s .args .b) (s .args .entry) (s .pre .1 .0) (c .before .before .before .before .before .before .before .before .before .before .before .entry-at .result) (c .before .before .before .before .before .before .before .before .before .before .before .entry-at .ensures) (c .before .before .before .before .before .before .if2 .left) (c .before .before .before .before .if5 .taken) (c .before .before .before .run-of .result .start) (c .before .before .before .run-of .result .rows) (c .before .before .before .run-of .ensures .place)) (c .before .before .before .before .before .before .before .before .before .before .before .entry-at .result) (c .before .before .before .before .before .before .before .before .before .before .before .entry-at .ensures) (s .args .verdict) (s .pre .1 .1 .0) (steps.run-whole (now (s .args .rule)) (now (s .args .pool)) (s .args .b) (s .args .entry) (s .pre .1 .0) (c .before .before .before .before .before .before .before .before .before .before .before .entry-at .result) (c .before .before .before .before .before .before .before .before .before .before .before .entry-at .ensures) (c .before .before .before .before .before .before .if2 .left) (c .before .before .before .before .if5 .taken) (c .before .before .before .run-of .result .start) (c .before .before .before .run-of .result .rows) (c .before .before .before .run-of .ensures)) (c .before .if6 .taken), s .pre .1 .1 .1)))
 
 explain-same-length-5 : (t : ℕ) → explain-lts.Need-same-length-5 (explain-claims t) (explain-at t) explain.Post
 explain-same-length-5 t c =
@@ -148,19 +147,19 @@ explain-same-length-5 t c =
 
 explain-returns-5 : (t : ℕ) → explain-lts.Need-returns-5 (explain-claims t) (explain-at t) explain.Post
 explain-returns-5 t c =
-    let s = c .before .before .before .before .before .before .before .before .before .before .before .before .before .before .before .before .before .before in explained.all-marked (now (s .args .rule)) (now (s .args .pool)) (s .args .b) (s .args .entry) 0 (c .before .before .before .before .before .before .row-count .result) (steps.rows-ready (now (s .args .rule)) (now (s .args .pool)) (s .args .b) (s .args .entry) (s .pre .1 .0) (c .before .before .before .before .before .before .before .before .before .before .before .before .before .before .entry-at .result) (c .before .before .before .before .before .before .before .before .before .before .before .before .before .before .entry-at .ensures) (c .before .before .before .before .before .before .before .before .before .if2 .left) (c .before .before .before .before .before .before .before .if5 .taken) 0 (c .before .before .before .before .before .before .row-count .result) (omega (arith, c .before .before .before .before .before .before .row-count .ensures))) (c .before .before .before .before .before .before .before .before .before .before .before .before .before .before .entry-at .result) (c .before .before .before .before .before .before .before .before .before .before .before .before .before .before .entry-at .ensures) (s .args .verdict) (s .pre .1 .1 .0) (ap (λ (n : ℕ). rangedFrom (now (s .args .rule)) (now (s .args .pool)) (s .args .b) (s .args .entry) 0 n) (c .before .before .before .before .before .before .row-count .ensures)) (c .before .before .before .before .if6 .taken) (now (s .args .out)) _ (c .before .before .explain-rows .ensures)
+    let s = c .before .before .before .before .before .before .before .before .before .before .before .before .before .before .before .before .before .before in explained.all-marked (now (s .args .rule)) (now (s .args .pool)) (s .args .b) (s .args .entry) (c .before .before .before .before .before .before .run-of .result .start) (c .before .before .before .before .before .before .run-of .result .rows) (steps.rows-ready (now (s .args .rule)) (now (s .args .pool)) (s .args .b) (s .args .entry) (s .pre .1 .0) (c .before .before .before .before .before .before .before .before .before .before .before .before .before .before .entry-at .result) (c .before .before .before .before .before .before .before .before .before .before .before .before .before .before .entry-at .ensures) (c .before .before .before .before .before .before .before .before .before .if2 .left) (c .before .before .before .before .before .before .before .if5 .taken) (c .before .before .before .before .before .before .run-of .result .start) (c .before .before .before .before .before .before .run-of .result .rows) (c .before .before .before .before .before .before .run-of .ensures .place)) (c .before .before .before .before .before .before .before .before .before .before .before .before .before .before .entry-at .result) (c .before .before .before .before .before .before .before .before .before .before .before .before .before .before .entry-at .ensures) (s .args .verdict) (s .pre .1 .1 .0) (steps.run-whole (now (s .args .rule)) (now (s .args .pool)) (s .args .b) (s .args .entry) (s .pre .1 .0) (c .before .before .before .before .before .before .before .before .before .before .before .before .before .before .entry-at .result) (c .before .before .before .before .before .before .before .before .before .before .before .before .before .before .entry-at .ensures) (c .before .before .before .before .before .before .before .before .before .if2 .left) (c .before .before .before .before .before .before .before .if5 .taken) (c .before .before .before .before .before .before .run-of .result .start) (c .before .before .before .before .before .before .run-of .result .rows) (c .before .before .before .before .before .before .run-of .ensures)) (c .before .before .before .before .if6 .taken) (now (s .args .out)) _ (c .before .before .explain-rows .ensures)
 
 explain-first-deciding-requires : (t : ℕ) → explain-lts.Need-first-deciding-requires (explain-claims t) (explain-at t) explain.Post
 explain-first-deciding-requires t c κs =
-    let s = c .before .before .before .before .before .before .before .before .before .before .before .before .before .before in (steps.rows-ready (now (s .args .rule)) (now (s .args .pool)) (s .args .b) (s .args .entry) (s .pre .1 .0) (c .before .before .before .before .before .before .before .before .before .before .entry-at .result) (c .before .before .before .before .before .before .before .before .before .before .entry-at .ensures) (c .before .before .before .before .before .if2 .left) (c .before .before .before .if5 .taken) 0 (c .before .before .row-count .result) (omega (arith, c .before .before .row-count .ensures)))
+    let s = c .before .before .before .before .before .before .before .before .before .before .before .before .before .before in (steps.rows-ready (now (s .args .rule)) (now (s .args .pool)) (s .args .b) (s .args .entry) (s .pre .1 .0) (c .before .before .before .before .before .before .before .before .before .before .entry-at .result) (c .before .before .before .before .before .before .before .before .before .before .entry-at .ensures) (c .before .before .before .before .before .if2 .left) (c .before .before .before .if5 .taken) (c .before .before .run-of .result .start) (c .before .before .run-of .result .rows) (c .before .before .run-of .ensures .place))
 
 explain-slice-write-out : (t : ℕ) → explain-lts.Need-slice-write-out (explain-claims t) (explain-at t) explain.Post
 explain-slice-write-out t c =
-    let s = c .before .before .before .before .before .before .before .before .before .before .before .before .before .before .before in omega (arith, s .pre .1 .1 .1, explained.deciding-place (now (s .args .rule)) (now (s .args .pool)) (s .args .b) (s .args .entry) 0 (c .before .before .before .row-count .result) (steps.rows-ready (now (s .args .rule)) (now (s .args .pool)) (s .args .b) (s .args .entry) (s .pre .1 .0) (c .before .before .before .before .before .before .before .before .before .before .before .entry-at .result) (c .before .before .before .before .before .before .before .before .before .before .before .entry-at .ensures) (c .before .before .before .before .before .before .if2 .left) (c .before .before .before .before .if5 .taken) 0 (c .before .before .before .row-count .result) (omega (arith, c .before .before .before .row-count .ensures))) (c .before .before .before .before .before .before .before .before .before .before .before .entry-at .result) (c .before .before .before .before .before .before .before .before .before .before .before .entry-at .ensures) (s .args .verdict) (s .pre .1 .1 .0) (ap (λ (n : ℕ). rangedFrom (now (s .args .rule)) (now (s .args .pool)) (s .args .b) (s .args .entry) 0 n) (c .before .before .before .row-count .ensures)) (c .before .if6 .left) (c .first-deciding .result) (c .first-deciding .ensures), c .before .before .before .row-count .ensures)
+    let s = c .before .before .before .before .before .before .before .before .before .before .before .before .before .before .before in omega (arith, s .pre .1 .1 .1, explained.deciding-place (now (s .args .rule)) (now (s .args .pool)) (s .args .b) (s .args .entry) (c .before .before .before .run-of .result .start) (c .before .before .before .run-of .result .rows) (steps.rows-ready (now (s .args .rule)) (now (s .args .pool)) (s .args .b) (s .args .entry) (s .pre .1 .0) (c .before .before .before .before .before .before .before .before .before .before .before .entry-at .result) (c .before .before .before .before .before .before .before .before .before .before .before .entry-at .ensures) (c .before .before .before .before .before .before .if2 .left) (c .before .before .before .before .if5 .taken) (c .before .before .before .run-of .result .start) (c .before .before .before .run-of .result .rows) (c .before .before .before .run-of .ensures .place)) (c .before .before .before .before .before .before .before .before .before .before .before .entry-at .result) (c .before .before .before .before .before .before .before .before .before .before .before .entry-at .ensures) (s .args .verdict) (s .pre .1 .1 .0) (steps.run-whole (now (s .args .rule)) (now (s .args .pool)) (s .args .b) (s .args .entry) (s .pre .1 .0) (c .before .before .before .before .before .before .before .before .before .before .before .entry-at .result) (c .before .before .before .before .before .before .before .before .before .before .before .entry-at .ensures) (c .before .before .before .before .before .before .if2 .left) (c .before .before .before .before .if5 .taken) (c .before .before .before .run-of .result .start) (c .before .before .before .run-of .result .rows) (c .before .before .before .run-of .ensures)) (c .before .if6 .left) (c .first-deciding .result) (c .first-deciding .ensures), c .before .before .before .run-of .ensures .place)
 
 explain-add-bind : (t : ℕ) → explain-lts.Need-add-bind (explain-claims t) (explain-at t) explain.Post
 explain-add-bind t c =
-    let s = c .before .before .before .before .before .before .before .before .before .before .before .before .before .before .before in omega (arith, s .pre .1 .1 .1, explained.deciding-place (now (s .args .rule)) (now (s .args .pool)) (s .args .b) (s .args .entry) 0 (c .before .before .before .row-count .result) (steps.rows-ready (now (s .args .rule)) (now (s .args .pool)) (s .args .b) (s .args .entry) (s .pre .1 .0) (c .before .before .before .before .before .before .before .before .before .before .before .entry-at .result) (c .before .before .before .before .before .before .before .before .before .before .before .entry-at .ensures) (c .before .before .before .before .before .before .if2 .left) (c .before .before .before .before .if5 .taken) 0 (c .before .before .before .row-count .result) (omega (arith, c .before .before .before .row-count .ensures))) (c .before .before .before .before .before .before .before .before .before .before .before .entry-at .result) (c .before .before .before .before .before .before .before .before .before .before .before .entry-at .ensures) (s .args .verdict) (s .pre .1 .1 .0) (ap (λ (n : ℕ). rangedFrom (now (s .args .rule)) (now (s .args .pool)) (s .args .b) (s .args .entry) 0 n) (c .before .before .before .row-count .ensures)) (c .before .if6 .left) (c .first-deciding .result) (c .first-deciding .ensures), c .before .before .before .row-count .ensures)
+    let s = c .before .before .before .before .before .before .before .before .before .before .before .before .before .before .before in omega (arith, s .pre .1 .1 .1, explained.deciding-place (now (s .args .rule)) (now (s .args .pool)) (s .args .b) (s .args .entry) (c .before .before .before .run-of .result .start) (c .before .before .before .run-of .result .rows) (steps.rows-ready (now (s .args .rule)) (now (s .args .pool)) (s .args .b) (s .args .entry) (s .pre .1 .0) (c .before .before .before .before .before .before .before .before .before .before .before .entry-at .result) (c .before .before .before .before .before .before .before .before .before .before .before .entry-at .ensures) (c .before .before .before .before .before .before .if2 .left) (c .before .before .before .before .if5 .taken) (c .before .before .before .run-of .result .start) (c .before .before .before .run-of .result .rows) (c .before .before .before .run-of .ensures .place)) (c .before .before .before .before .before .before .before .before .before .before .before .entry-at .result) (c .before .before .before .before .before .before .before .before .before .before .before .entry-at .ensures) (s .args .verdict) (s .pre .1 .1 .0) (steps.run-whole (now (s .args .rule)) (now (s .args .pool)) (s .args .b) (s .args .entry) (s .pre .1 .0) (c .before .before .before .before .before .before .before .before .before .before .before .entry-at .result) (c .before .before .before .before .before .before .before .before .before .before .before .entry-at .ensures) (c .before .before .before .before .before .before .if2 .left) (c .before .before .before .before .if5 .taken) (c .before .before .before .run-of .result .start) (c .before .before .before .run-of .result .rows) (c .before .before .before .run-of .ensures)) (c .before .if6 .left) (c .first-deciding .result) (c .first-deciding .ensures), c .before .before .before .run-of .ensures .place)
 
 explain-bind-requires : (t : ℕ) → explain-lts.Need-bind-requires (explain-claims t) (explain-at t) explain.Post
 explain-bind-requires t c κs =
@@ -168,7 +167,7 @@ explain-bind-requires t c κs =
 
 explain-explain-requires-6 : (t : ℕ) → explain-lts.Need-explain-requires-6 (explain-claims t) (explain-at t) explain.Post
 explain-explain-requires-6 t c κs =
-    let s = c .before .before .before .before .before .before .before .before .before .before .before .before .before .before .before .before .before in let l = steps.body-later (now (s .args .rule)) (now (s .args .pool)) (s .args .b) (s .args .entry) 0 (c .before .before .before .before .before .row-count .result) (steps.rows-ready (now (s .args .rule)) (now (s .args .pool)) (s .args .b) (s .args .entry) (s .pre .1 .0) (c .before .before .before .before .before .before .before .before .before .before .before .before .before .entry-at .result) (c .before .before .before .before .before .before .before .before .before .before .before .before .before .entry-at .ensures) (c .before .before .before .before .before .before .before .before .if2 .left) (c .before .before .before .before .before .before .if5 .taken) 0 (c .before .before .before .before .before .row-count .result) (omega (arith, c .before .before .before .before .before .row-count .ensures))) (c .before .before .before .before .before .before .before .before .before .before .before .before .before .entry-at .result) (c .before .before .before .before .before .before .before .before .before .before .before .before .before .entry-at .ensures) in (below (s .pre .0) (falls-child (entryCount (now (s .args .rule))) (rowCount (now (s .args .pool))) (s .args .entry) _ (l .0) (l .1)), (steps.bound-ready (now (s .args .rule)) (now (s .args .pool)) (s .args .b) (s .args .entry) 0 (c .before .before .before .before .before .row-count .result) (steps.rows-ready (now (s .args .rule)) (now (s .args .pool)) (s .args .b) (s .args .entry) (s .pre .1 .0) (c .before .before .before .before .before .before .before .before .before .before .before .before .before .entry-at .result) (c .before .before .before .before .before .before .before .before .before .before .before .before .before .entry-at .ensures) (c .before .before .before .before .before .before .before .before .if2 .left) (c .before .before .before .before .before .before .if5 .taken) 0 (c .before .before .before .before .before .row-count .result) (omega (arith, c .before .before .before .before .before .row-count .ensures))) (c .before .before .before .before .before .before .before .before .before .before .before .before .before .entry-at .result) (c .before .before .before .before .before .before .before .before .before .before .before .before .before .entry-at .ensures) (c .before .before .first-deciding .result + 1) (omega (arith, explained.deciding-place (now (s .args .rule)) (now (s .args .pool)) (s .args .b) (s .args .entry) 0 (c .before .before .before .before .before .row-count .result) (steps.rows-ready (now (s .args .rule)) (now (s .args .pool)) (s .args .b) (s .args .entry) (s .pre .1 .0) (c .before .before .before .before .before .before .before .before .before .before .before .before .before .entry-at .result) (c .before .before .before .before .before .before .before .before .before .before .before .before .before .entry-at .ensures) (c .before .before .before .before .before .before .before .before .if2 .left) (c .before .before .before .before .before .before .if5 .taken) 0 (c .before .before .before .before .before .row-count .result) (omega (arith, c .before .before .before .before .before .row-count .ensures))) (c .before .before .before .before .before .before .before .before .before .before .before .before .before .entry-at .result) (c .before .before .before .before .before .before .before .before .before .before .before .before .before .entry-at .ensures) (s .args .verdict) (s .pre .1 .1 .0) (ap (λ (n : ℕ). rangedFrom (now (s .args .rule)) (now (s .args .pool)) (s .args .b) (s .args .entry) 0 n) (c .before .before .before .before .before .row-count .ensures)) (c .before .before .before .if6 .left) (c .before .before .first-deciding .result) (c .before .before .first-deciding .ensures), c .before .before .before .before .before .row-count .ensures)) _ (c .before .bind .ensures), (explained.deciding-verdict (now (s .args .rule)) (now (s .args .pool)) (s .args .b) (s .args .entry) 0 (c .before .before .before .before .before .row-count .result) (steps.rows-ready (now (s .args .rule)) (now (s .args .pool)) (s .args .b) (s .args .entry) (s .pre .1 .0) (c .before .before .before .before .before .before .before .before .before .before .before .before .before .entry-at .result) (c .before .before .before .before .before .before .before .before .before .before .before .before .before .entry-at .ensures) (c .before .before .before .before .before .before .before .before .if2 .left) (c .before .before .before .before .before .before .if5 .taken) 0 (c .before .before .before .before .before .row-count .result) (omega (arith, c .before .before .before .before .before .row-count .ensures))) (c .before .before .before .before .before .before .before .before .before .before .before .before .before .entry-at .result) (c .before .before .before .before .before .before .before .before .before .before .before .before .before .entry-at .ensures) (s .args .verdict) (s .pre .1 .1 .0) (ap (λ (n : ℕ). rangedFrom (now (s .args .rule)) (now (s .args .pool)) (s .args .b) (s .args .entry) 0 n) (c .before .before .before .before .before .row-count .ensures)) (c .before .before .before .if6 .left) (c .before .before .first-deciding .result) (c .before .before .first-deciding .ensures) _ (c .before .bind .ensures), simp length-set (s .pre .1 .1 .1))))
+    let s = c .before .before .before .before .before .before .before .before .before .before .before .before .before .before .before .before .before in let l = steps.body-later (now (s .args .rule)) (now (s .args .pool)) (s .args .b) (s .args .entry) (c .before .before .before .before .before .run-of .result .start) (c .before .before .before .before .before .run-of .result .rows) (steps.rows-ready (now (s .args .rule)) (now (s .args .pool)) (s .args .b) (s .args .entry) (s .pre .1 .0) (c .before .before .before .before .before .before .before .before .before .before .before .before .before .entry-at .result) (c .before .before .before .before .before .before .before .before .before .before .before .before .before .entry-at .ensures) (c .before .before .before .before .before .before .before .before .if2 .left) (c .before .before .before .before .before .before .if5 .taken) (c .before .before .before .before .before .run-of .result .start) (c .before .before .before .before .before .run-of .result .rows) (c .before .before .before .before .before .run-of .ensures .place)) (c .before .before .before .before .before .before .before .before .before .before .before .before .before .entry-at .result) (c .before .before .before .before .before .before .before .before .before .before .before .before .before .entry-at .ensures) in (below (s .pre .0) (falls-child (entryCount (now (s .args .rule))) (rowCount (now (s .args .pool))) (s .args .entry) _ (l .0) (l .1)), (steps.bound-ready (now (s .args .rule)) (now (s .args .pool)) (s .args .b) (s .args .entry) (c .before .before .before .before .before .run-of .result .start) (c .before .before .before .before .before .run-of .result .rows) (steps.rows-ready (now (s .args .rule)) (now (s .args .pool)) (s .args .b) (s .args .entry) (s .pre .1 .0) (c .before .before .before .before .before .before .before .before .before .before .before .before .before .entry-at .result) (c .before .before .before .before .before .before .before .before .before .before .before .before .before .entry-at .ensures) (c .before .before .before .before .before .before .before .before .if2 .left) (c .before .before .before .before .before .before .if5 .taken) (c .before .before .before .before .before .run-of .result .start) (c .before .before .before .before .before .run-of .result .rows) (c .before .before .before .before .before .run-of .ensures .place)) (c .before .before .before .before .before .before .before .before .before .before .before .before .before .entry-at .result) (c .before .before .before .before .before .before .before .before .before .before .before .before .before .entry-at .ensures) (c .before .before .first-deciding .result + 1) (omega (arith, explained.deciding-place (now (s .args .rule)) (now (s .args .pool)) (s .args .b) (s .args .entry) (c .before .before .before .before .before .run-of .result .start) (c .before .before .before .before .before .run-of .result .rows) (steps.rows-ready (now (s .args .rule)) (now (s .args .pool)) (s .args .b) (s .args .entry) (s .pre .1 .0) (c .before .before .before .before .before .before .before .before .before .before .before .before .before .entry-at .result) (c .before .before .before .before .before .before .before .before .before .before .before .before .before .entry-at .ensures) (c .before .before .before .before .before .before .before .before .if2 .left) (c .before .before .before .before .before .before .if5 .taken) (c .before .before .before .before .before .run-of .result .start) (c .before .before .before .before .before .run-of .result .rows) (c .before .before .before .before .before .run-of .ensures .place)) (c .before .before .before .before .before .before .before .before .before .before .before .before .before .entry-at .result) (c .before .before .before .before .before .before .before .before .before .before .before .before .before .entry-at .ensures) (s .args .verdict) (s .pre .1 .1 .0) (steps.run-whole (now (s .args .rule)) (now (s .args .pool)) (s .args .b) (s .args .entry) (s .pre .1 .0) (c .before .before .before .before .before .before .before .before .before .before .before .before .before .entry-at .result) (c .before .before .before .before .before .before .before .before .before .before .before .before .before .entry-at .ensures) (c .before .before .before .before .before .before .before .before .if2 .left) (c .before .before .before .before .before .before .if5 .taken) (c .before .before .before .before .before .run-of .result .start) (c .before .before .before .before .before .run-of .result .rows) (c .before .before .before .before .before .run-of .ensures)) (c .before .before .before .if6 .left) (c .before .before .first-deciding .result) (c .before .before .first-deciding .ensures), c .before .before .before .before .before .run-of .ensures .place)) _ (c .before .bind .ensures), (explained.deciding-verdict (now (s .args .rule)) (now (s .args .pool)) (s .args .b) (s .args .entry) (c .before .before .before .before .before .run-of .result .start) (c .before .before .before .before .before .run-of .result .rows) (steps.rows-ready (now (s .args .rule)) (now (s .args .pool)) (s .args .b) (s .args .entry) (s .pre .1 .0) (c .before .before .before .before .before .before .before .before .before .before .before .before .before .entry-at .result) (c .before .before .before .before .before .before .before .before .before .before .before .before .before .entry-at .ensures) (c .before .before .before .before .before .before .before .before .if2 .left) (c .before .before .before .before .before .before .if5 .taken) (c .before .before .before .before .before .run-of .result .start) (c .before .before .before .before .before .run-of .result .rows) (c .before .before .before .before .before .run-of .ensures .place)) (c .before .before .before .before .before .before .before .before .before .before .before .before .before .entry-at .result) (c .before .before .before .before .before .before .before .before .before .before .before .before .before .entry-at .ensures) (s .args .verdict) (s .pre .1 .1 .0) (steps.run-whole (now (s .args .rule)) (now (s .args .pool)) (s .args .b) (s .args .entry) (s .pre .1 .0) (c .before .before .before .before .before .before .before .before .before .before .before .before .before .entry-at .result) (c .before .before .before .before .before .before .before .before .before .before .before .before .before .entry-at .ensures) (c .before .before .before .before .before .before .before .before .if2 .left) (c .before .before .before .before .before .before .if5 .taken) (c .before .before .before .before .before .run-of .result .start) (c .before .before .before .before .before .run-of .result .rows) (c .before .before .before .before .before .run-of .ensures)) (c .before .before .before .if6 .left) (c .before .before .first-deciding .result) (c .before .before .first-deciding .ensures) _ (c .before .bind .ensures), simp length-set (s .pre .1 .1 .1))))
 
 explain-same-length-6 : (t : ℕ) → explain-lts.Need-same-length-6 (explain-claims t) (explain-at t) explain.Post
 explain-same-length-6 t c =
@@ -176,7 +175,7 @@ explain-same-length-6 t c =
 
 explain-returns-6 : (t : ℕ) → explain-lts.Need-returns-6 (explain-claims t) (explain-at t) explain.Post
 explain-returns-6 t c =
-    let s = c .before .before .before .before .before .before .before .before .before .before .before .before .before .before .before .before .before .before .before .before in explained.first-marked (now (s .args .rule)) (now (s .args .pool)) (s .args .b) (s .args .entry) 0 (c .before .before .before .before .before .before .before .before .row-count .result) (steps.rows-ready (now (s .args .rule)) (now (s .args .pool)) (s .args .b) (s .args .entry) (s .pre .1 .0) (c .before .before .before .before .before .before .before .before .before .before .before .before .before .before .before .before .entry-at .result) (c .before .before .before .before .before .before .before .before .before .before .before .before .before .before .before .before .entry-at .ensures) (c .before .before .before .before .before .before .before .before .before .before .before .if2 .left) (c .before .before .before .before .before .before .before .before .before .if5 .taken) 0 (c .before .before .before .before .before .before .before .before .row-count .result) (omega (arith, c .before .before .before .before .before .before .before .before .row-count .ensures))) (c .before .before .before .before .before .before .before .before .before .before .before .before .before .before .before .before .entry-at .result) (c .before .before .before .before .before .before .before .before .before .before .before .before .before .before .before .before .entry-at .ensures) (s .args .verdict) (s .pre .1 .1 .0) (ap (λ (n : ℕ). rangedFrom (now (s .args .rule)) (now (s .args .pool)) (s .args .b) (s .args .entry) 0 n) (c .before .before .before .before .before .before .before .before .row-count .ensures)) (c .before .before .before .before .before .before .if6 .left) (c .before .before .before .before .before .first-deciding .result) (c .before .before .before .before .before .first-deciding .ensures) _ (c .before .before .before .before .bind .ensures) (now (s .args .out)) _ (c .before .before .explain6 .ensures)
+    let s = c .before .before .before .before .before .before .before .before .before .before .before .before .before .before .before .before .before .before .before .before in explained.first-marked (now (s .args .rule)) (now (s .args .pool)) (s .args .b) (s .args .entry) (c .before .before .before .before .before .before .before .before .run-of .result .start) (c .before .before .before .before .before .before .before .before .run-of .result .rows) (steps.rows-ready (now (s .args .rule)) (now (s .args .pool)) (s .args .b) (s .args .entry) (s .pre .1 .0) (c .before .before .before .before .before .before .before .before .before .before .before .before .before .before .before .before .entry-at .result) (c .before .before .before .before .before .before .before .before .before .before .before .before .before .before .before .before .entry-at .ensures) (c .before .before .before .before .before .before .before .before .before .before .before .if2 .left) (c .before .before .before .before .before .before .before .before .before .if5 .taken) (c .before .before .before .before .before .before .before .before .run-of .result .start) (c .before .before .before .before .before .before .before .before .run-of .result .rows) (c .before .before .before .before .before .before .before .before .run-of .ensures .place)) (c .before .before .before .before .before .before .before .before .before .before .before .before .before .before .before .before .entry-at .result) (c .before .before .before .before .before .before .before .before .before .before .before .before .before .before .before .before .entry-at .ensures) (s .args .verdict) (s .pre .1 .1 .0) (steps.run-whole (now (s .args .rule)) (now (s .args .pool)) (s .args .b) (s .args .entry) (s .pre .1 .0) (c .before .before .before .before .before .before .before .before .before .before .before .before .before .before .before .before .entry-at .result) (c .before .before .before .before .before .before .before .before .before .before .before .before .before .before .before .before .entry-at .ensures) (c .before .before .before .before .before .before .before .before .before .before .before .if2 .left) (c .before .before .before .before .before .before .before .before .before .if5 .taken) (c .before .before .before .before .before .before .before .before .run-of .result .start) (c .before .before .before .before .before .before .before .before .run-of .result .rows) (c .before .before .before .before .before .before .before .before .run-of .ensures)) (c .before .before .before .before .before .before .if6 .left) (c .before .before .before .before .before .first-deciding .result) (c .before .before .before .before .before .first-deciding .ensures) _ (c .before .before .before .before .bind .ensures) (now (s .args .out)) _ (c .before .before .explain6 .ensures)
 
 explain-mark-compared-requires : (t : ℕ) → explain-lts.Need-mark-compared-requires (explain-claims t) (explain-at t) explain.Post
 explain-mark-compared-requires t c κs =
@@ -268,5 +267,5 @@ explain-rows-returns-3 t c =
 pub +explain+explain-rows-spec : {M : Type 1} → statement M
 +explain+explain-rows-spec =
     close μ-explain μ-explain-rows
-    (λ t. explain-lts.spec (explain-claims t) (explain-at t) explain.Post (explain-entry-at-requires t) (explain-cast-a t) (explain-explain-requires t) (explain-same-length t) (explain-returns t) (explain-cast-second t) (explain-side-requires t) (explain-explain-requires-2 t) (explain-explain-requires-3 t) (explain-same-length-2 t) (explain-returns-2 t) (explain-holds-requires t) (explain-left-decides-requires t) (explain-explain-requires-4 t) (explain-same-length-3 t) (explain-returns-3 t) (explain-explain-requires-5 t) (explain-same-length-4 t) (explain-returns-4 t) (explain-row-count-requires t) (explain-explain-rows-requires t) (explain-same-length-5 t) (explain-returns-5 t) (explain-first-deciding-requires t) (explain-slice-write-out t) (explain-add-bind t) (explain-bind-requires t) (explain-explain-requires-6 t) (explain-same-length-6 t) (explain-returns-6 t) (explain-mark-compared-requires t) (explain-same-length-7 t) (explain-returns-7 t))
+    (λ t. explain-lts.spec (explain-claims t) (explain-at t) explain.Post (explain-entry-at-requires t) (explain-cast-a t) (explain-explain-requires t) (explain-same-length t) (explain-returns t) (explain-cast-second t) (explain-side-requires t) (explain-explain-requires-2 t) (explain-explain-requires-3 t) (explain-same-length-2 t) (explain-returns-2 t) (explain-holds-requires t) (explain-left-decides-requires t) (explain-explain-requires-4 t) (explain-same-length-3 t) (explain-returns-3 t) (explain-explain-requires-5 t) (explain-same-length-4 t) (explain-returns-4 t) (explain-run-of-requires t) (explain-explain-rows-requires t) (explain-same-length-5 t) (explain-returns-5 t) (explain-first-deciding-requires t) (explain-slice-write-out t) (explain-add-bind t) (explain-bind-requires t) (explain-explain-requires-6 t) (explain-same-length-6 t) (explain-returns-6 t) (explain-mark-compared-requires t) (explain-same-length-7 t) (explain-returns-7 t))
     (λ t. explain-rows-lts.spec (explain-rows-claims t) (explain-rows-at t) explain-rows.Post (explain-rows-entry-at-requires t) (explain-rows-next-ranged-requires t) (explain-rows-add-left t) (explain-rows-sub-left t) (explain-rows-returns t) (explain-rows-explain-rows-requires t) (explain-rows-add-explain-rows t) (explain-rows-sub-explain-rows t) (explain-rows-explain-rows-requires-2 t) (explain-rows-same-length t) (explain-rows-returns-2 t) (explain-rows-slice-write-out t) (explain-rows-add-bind t) (explain-rows-bind-requires t) (explain-rows-cast-explain t) (explain-rows-explain-requires t) (explain-rows-same-length-2 t) (explain-rows-returns-3 t))
