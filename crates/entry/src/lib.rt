@@ -8,6 +8,7 @@ ghost use Rattle.tables.specs.Joining.{joinAnswer, joinPool};
 ghost use Rattle.tables.specs.Files.{readRule, readRuleOut, readPool, readPoolOut, writeRule, writeRuleOut, writePool, writePoolOut};
 ghost use Rattle.logic.specs.Verdict.{verdictAnswer};
 ghost use Rattle.logic.specs.Marks.{marksAnswer, marksOut};
+ghost use Rattle.logic.specs.Parts.{partAnswer, partOut};
 ghost use Rattle.entry.specs.Interface.{answered, spanned};
 
 #[repr(C)]
@@ -118,4 +119,12 @@ pub extern "C" fn gabzeril_marks(rule: &[u32], pool: &[u32], marks: &mut [u8]) -
     ensures bytes { λ r. ⌜ now (marks .exit) ≡ marksOut (now (rule .entry)) (now (pool .entry)) (now (marks .entry)) ⌝ }
 {
     c_answer(engine::marks(rule, pool, marks))
+}
+
+#[no_mangle]
+pub extern "C" fn gabzeril_part(rule: &[u32], table: &[u32], mode: u32, part: &mut [u32]) -> CAnswer
+    ensures answer { λ r. ⌜ r ≡ answered (partAnswer (now (rule .entry)) (now (table .entry)) mode (length (now (part .entry)))) ⌝ }
+    ensures words { λ r. ⌜ now (part .exit) ≡ partOut (now (rule .entry)) (now (table .entry)) mode (now (part .entry)) ⌝ }
+{
+    c_answer(parts::part(rule, table, mode, part))
 }

@@ -1,0 +1,195 @@
+-- What the part call answers and writes, by the checks on the way. Assumes nothing.
+use Prim.Native.Nat.{ℕ, _+_, _*_, _<_, _≤_}
+use mathlib.Core.Path.{_≡_, refl, sym, ap, ap₂, _∙_}
+use mathlib.Core.Bool.{Bool, true, false, not, cond, _&&_, true≢false, false≢true}
+use mathlib.Core.List.{List, [], _∷_, _++_}
+use native.Mathlib.Omega.{arith}
+use lib.ListN.{length, getD, drop}
+use lib.Seq.{sets, sets-eq}
+use lib.Dec.{eqb, ltb, leb}
+use borrow.Author.Tests.{eq-eqb, ne-eqb, eqb-true, lt-ltb, le-ltb, le-leb, lt-leb, not-false}
+use Rattle.base.specs.Search.{first, some, sumBelow}
+use Rattle.tables.specs.Answers.{isDone, andThen, unless, unlessAny}
+use Rattle.tables.specs.Words.{rowAt, rowCount, rows}
+use Rattle.tables.specs.Rules.{checkRule, acceptedRule}
+use Rattle.tables.specs.Tables.{checkTable, acceptedTable}
+use Rattle.tables.specs.declared.Row.{Row}
+use Rattle.tables.specs.declared.Answer.{Answer}
+use Rattle.tables.specs.declared.Answer.the-variants.{Done, Refused}
+use Rattle.tables.proofs.Answers.{unless-ok, unless-next, andThen-first, andThen-next, none-of}
+use Rattle.logic.specs.Formulas.{formula}
+use Rattle.logic.specs.Parts.{contradiction, partOf, wordsOf, otherDevice, partAnswer, partOut}
+use Rattle.logic.proofs.Words.{length-words}
+use Rattle.parts.specs.Keeping.{OneDevice, ReadyPart, Keeps}
+use Rattle.parts.specs.Sending.{rowsSent, requestAnswer}
+use Rattle.parts.specs.declared.keeping.Kept.{Kept}
+use Rattle.parts.proofs.Sent.{sent-is, count-is}
+
+-- ---- 14: a row of another device
+module _ (t : List ℕ) (i : ℕ) (r z : Row) (r-is : r ≡ rowAt t i) (z-is : z ≡ rowAt t 0) where
+  other-is : otherDevice t i ≡ not (eqb (r .device) (z .device))
+  other-is = ap₂ (λ (a b : Row). not (eqb (a .device) (b .device))) (sym r-is) (sym z-is)
+
+  pub is-other : (r .device ≡ z .device → ⊥) → otherDevice t i ≡ true
+  is-other h = other-is ∙ ap not (ne-eqb (r .device) (z .device) h)
+
+  pub is-same : r .device ≡ z .device → otherDevice t i ≡ false
+  is-same h = other-is ∙ ap not (eq-eqb (r .device) (z .device) h)
+
+-- ---- refusals 1 to 14, before any next answer
+module _ (rule t : List ℕ) (m : ℕ) (next : Answer) where
+  abbrev mode-ok : Bool
+  mode-ok = leb 1 m && leb m 3
+
+  abbrev other : Answer
+  other = unlessAny (otherDevice t) 14 (rowCount t) next
+
+  pub rule-refused : (k p : ℕ) → checkRule rule ≡ Refused k p → Refused k p ≡ requestAnswer rule t m next
+  rule-refused k p e = sym (ap (λ (a : Answer). andThen a (andThen (checkTable t) (unless mode-ok 13 other))) e)
+
+  module _ (x : ℕ) (rule-done : checkRule rule ≡ Done x) where
+    after-rule : requestAnswer rule t m next ≡ andThen (checkTable t) (unless mode-ok 13 other)
+    after-rule = ap (λ (a : Answer). andThen a (andThen (checkTable t) (unless mode-ok 13 other))) rule-done
+
+    pub table-refused : (k p : ℕ) → checkTable t ≡ Refused k p → Refused k p ≡ requestAnswer rule t m next
+    table-refused k p e = sym (after-rule ∙ ap (λ (a : Answer). andThen a (unless mode-ok 13 other)) e)
+
+    module _ (y : ℕ) (table-done : checkTable t ≡ Done y) where
+      after-table : requestAnswer rule t m next ≡ unless mode-ok 13 other
+      after-table = after-rule ∙ ap (λ (a : Answer). andThen a (unless mode-ok 13 other)) table-done
+
+      pub mode-refused : mode-ok ≡ false → Refused 13 0 ≡ requestAnswer rule t m next
+      mode-refused e = sym (after-table ∙ ap (λ (b : Bool). unless b 13 other) e)
+
+      module _ (mode-done : mode-ok ≡ true) (i n : ℕ) (i-is : i ≡ first (otherDevice t) (rowCount t)) (n-is : n ≡ rowCount t) where
+        after-mode : requestAnswer rule t m next ≡ cond (ltb i n) (Refused 14 i) next
+        after-mode = after-table ∙ ap (λ (b : Bool). unless b 13 other) mode-done
+            ∙ ap₂ (λ (j k : ℕ). cond (ltb j k) (Refused 14 j) next) (sym i-is) (sym n-is)
+
+        pub device-refused : i < n → Refused 14 i ≡ requestAnswer rule t m next
+        device-refused h = sym (after-mode ∙ ap (λ (b : Bool). cond b (Refused 14 i) next) (lt-ltb i n h))
+
+        pub request-done : n ≤ i → next ≡ requestAnswer rule t m next
+        request-done h = sym (after-mode ∙ ap (λ (b : Bool). cond b (Refused 14 i) next) (le-ltb i n h))
+
+-- a next answer comes behind them
+next-unless : (ok : Bool) (k x : ℕ) (next : Answer) → unless ok k next ≡ andThen (unless ok k (Done x)) next
+next-unless true k x next = refl
+next-unless false k x next = refl
+
+next-any : (b : Bool) (k p x : ℕ) (next : Answer) → cond b (Refused k p) next ≡ andThen (cond b (Refused k p) (Done x)) next
+next-any true k p x next = refl
+next-any false k p x next = refl
+
+next-then : (a b next : Answer) → andThen a (andThen b next) ≡ andThen (andThen a b) next
+next-then (Done n) b next = refl
+next-then (Refused k p) b next = refl
+
+module _ (rule t : List ℕ) (m room : ℕ) where
+  abbrev sent : List Row
+  sent = partOf (formula rule) m (rows t)
+
+  abbrev short : Answer
+  short = unless (leb (length (wordsOf sent)) room) 17 (Done (length sent))
+
+  abbrev last : Answer
+  last = unless (not (eqb m 3 && contradiction (formula rule) (rows t))) 15 short
+
+  in-turn : partAnswer rule t m room ≡ andThen (requestAnswer rule t m (Done 0)) last
+  unfolding partAnswer
+  in-turn =
+      let fault = otherDevice t in
+      let n = rowCount t in
+      let ok = leb 1 m && leb m 3 in
+      let device = unlessAny fault 14 n (Done 0) in
+      ap (λ (z : Answer). andThen (checkRule rule) (andThen (checkTable t) (unless ok 13 z))) (next-any (some fault n) 14 (first fault n) 0 last)
+      ∙ ap (λ (z : Answer). andThen (checkRule rule) (andThen (checkTable t) z)) (behind ok device)
+      ∙ ap (andThen (checkRule rule)) (next-then (checkTable t) (unless ok 13 device) last)
+      ∙ next-then (checkRule rule) (andThen (checkTable t) (unless ok 13 device)) last
+    where
+      behind : (b : Bool) (z : Answer) → unless b 13 (andThen z last) ≡ andThen (unless b 13 z) last
+      behind true z = refl
+      behind false z = refl
+
+  module _ (a : Answer) (a-is : a ≡ requestAnswer rule t m (Done 0)) where
+    answer-is : partAnswer rule t m room ≡ andThen a last
+    answer-is = in-turn ∙ ap (λ (z : Answer). andThen z last) (sym a-is)
+
+    pub request-refused : (k p : ℕ) → a ≡ Refused k p → Refused k p ≡ partAnswer rule t m room
+    request-refused k p e = sym (answer-is ∙ ap (λ (z : Answer). andThen z last) e)
+
+    module _ (x : ℕ) (done : a ≡ Done x) where
+      passed : isDone (requestAnswer rule t m (Done 0)) ≡ true
+      passed = ap isDone (sym a-is ∙ done)
+
+      device : Answer
+      device = unlessAny (otherDevice t) 14 (rowCount t) (Done 0)
+
+      mode : Answer
+      mode = unless (leb 1 m && leb m 3) 13 device
+
+      after-rules : isDone (andThen (checkTable t) mode) ≡ true
+      unfolding mode device
+      after-rules = andThen-next (checkRule rule) (andThen (checkTable t) mode) passed
+
+      after-tables : isDone mode ≡ true
+      after-tables = andThen-next (checkTable t) mode after-rules
+
+      same-device : (i : ℕ) → i < rowCount t → otherDevice t i ≡ false
+      unfolding mode device
+      same-device = none-of (otherDevice t) 14 (rowCount t) (Done 0) (unless-next (leb 1 m && leb m 3) 13 device after-tables)
+
+      pub ready : ReadyPart rule t
+      unfolding mode device
+      ready = record {
+        rule-accepted = andThen-first (checkRule rule) (andThen (checkTable t) mode) passed;
+        device = record {
+          accepted = andThen-first (checkTable t) mode after-rules;
+          same = λ i h. eqb-true (rowAt t i .device) (rowAt t 0 .device) (not-false _ (same-device i h));
+        };
+      }
+
+      -- ---- 15 and 17
+      module _ (k : Kept) (keeps : Keeps rule t m k) where
+        last-is : partAnswer rule t m room ≡ unless (not (k .contradicted)) 15 short
+        last-is = answer-is ∙ ap (λ (z : Answer). andThen z last) done ∙ ap (λ (b : Bool). unless (not b) 15 short) (sym (keeps .contradicted))
+
+        pub contradiction-refused : k .contradicted ≡ true → Refused 15 0 ≡ partAnswer rule t m room
+        contradiction-refused e = sym (last-is ∙ ap (λ (b : Bool). unless (not b) 15 short) e)
+
+        module _ (clear : k .contradicted ≡ false) (n count : ℕ) (n-is : n ≡ rowCount t) (count-of : count ≡ sumBelow (λ j. getD (k .row) j 0) n) where
+          count-sent : count ≡ length sent
+          count-sent = count-of ∙ ap (sumBelow (λ j. getD (k .row) j 0)) n-is ∙ count-is rule t (k .row) m (keeps .marked)
+
+          words-sent : length (wordsOf sent) ≡ 5 * count
+          words-sent = length-words sent ∙ ap (λ (j : ℕ). 5 * j) (sym count-sent)
+
+          pub words-kept : length (wordsOf (rowsSent t (k .row) 0 (rowCount t))) ≡ 5 * count
+          words-kept = ap (λ (D : List Row). length (wordsOf D)) (sent-is rule t (k .row) m (keeps .marked)) ∙ words-sent
+
+          short-is : partAnswer rule t m room ≡ short
+          short-is = last-is ∙ ap (λ (b : Bool). unless (not b) 15 short) clear
+
+          pub short-refused : room < 5 * count → Refused 17 0 ≡ partAnswer rule t m room
+          short-refused h = sym (short-is ∙ ap (λ (b : Bool). unless b 17 (Done (length sent))) (lt-leb (length (wordsOf sent)) room (omega (arith, words-sent))))
+
+          pub part-done : 5 * count ≤ room → Done count ≡ partAnswer rule t m room
+          part-done h =
+              sym (short-is ∙ ap (λ (b : Bool). unless b 17 (Done (length sent))) (le-leb (length (wordsOf sent)) room (omega (arith, words-sent)))
+              ∙ ap Done (sym count-sent))
+
+-- ---- the output
+pub out-kept : (rule t : List ℕ) (m : ℕ) (out : List ℕ) (k p : ℕ) → Refused k p ≡ partAnswer rule t m (length out) → out ≡ partOut rule t m out
+unfolding partOut
+out-kept rule t m out k p e = ap (λ (a : Answer). cond (isDone a) (wordsOf (partOf (formula rule) m (rows t)) ++ drop (length (wordsOf (partOf (formula rule) m (rows t)))) out) out) e
+
+pub out-written : (rule t : List ℕ) (m : ℕ) (out : List ℕ) (n : ℕ) → Done n ≡ partAnswer rule t m (length out) → (k : Kept) → Keeps rule t m k
+    → length (wordsOf (rowsSent t (k .row) 0 (rowCount t))) ≤ length out → (out′ : List ℕ) → out′ ≡ sets out 0 (wordsOf (rowsSent t (k .row) 0 (rowCount t))) → out′ ≡ partOut rule t m out
+unfolding partOut
+out-written rule t m out n e k keeps room out′ out-is =
+    let ws = wordsOf (rowsSent t (k .row) 0 (rowCount t)) in
+    let z : 0 + length ws ≡ length ws = omega arith in
+    out-is ∙ sets-eq ws out 0 (omega arith)
+    ∙ ap (λ (j : ℕ). ws ++ drop j out) z
+    ∙ ap (λ (D : List Row). wordsOf D ++ drop (length (wordsOf D)) out) (sent-is rule t (k .row) m (keeps .marked))
+    ∙ ap (λ (a : Answer). cond (isDone a) (wordsOf (partOf (formula rule) m (rows t)) ++ drop (length (wordsOf (partOf (formula rule) m (rows t)))) out) out) e

@@ -1,0 +1,12 @@
+pub mod Codes
+pub mod Comparing
+pub mod Folding
+pub mod Spans
+pub mod Steps
+pub mod Parentage
+pub mod Climbs
+pub mod Omits
+pub mod Seeking
+pub mod Staying
+pub mod Sent
+pub mod Answered

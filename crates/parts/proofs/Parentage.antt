@@ -1,0 +1,53 @@
+-- A row of an accepted table has at most one parent, an earlier row, which the search among the rows before it finds. Assumes nothing.
+use Prim.Native.Nat.{ℕ, _+_, _-_, _<_, _≤_}
+use mathlib.Core.Path.{_≡_, refl, sym, ap, _∙_}
+use mathlib.Core.Bool.{Bool, true, false, true≢false}
+use mathlib.Core.List.{List, [], _∷_}
+use native.Mathlib.Omega.{arith}
+use lib.Dec.{ltb}
+use borrow.Author.Tests.{ltb-true, ltb-false}
+use Rattle.base.specs.Lists.{select}
+use Rattle.base.specs.Search.{first}
+use Rattle.base.proofs.Bools.{either}
+use Rattle.base.proofs.Search.{first-le, none-before, at-first}
+use Rattle.tables.specs.Words.{rowAt, rowCount, rows, rowsFrom}
+use Rattle.tables.specs.Tables.{isParent, acceptedTable}
+use Rattle.tables.specs.declared.Row.{Row}
+use Rattle.tables.proofs.Accepted.{parent-device, parent-at, same-place, behind}
+use Rattle.logic.proofs.Walks.{select-none, select-one, select-span}
+use Rattle.parts.specs.Reaching.{parentOf}
+
+-- one row alone passes a test
+select-only : (P : Row → Bool) (t : List ℕ) (n p : ℕ) → p < n → P (rowAt t p) ≡ true → ((j : ℕ) → j < n → P (rowAt t j) ≡ true → j ≡ p) → select P (rowsFrom t 0 n) ≡ rowAt t p ∷ []
+select-only P t n p l e only =
+    sym (select-span P t n p 1 (omega arith) (λ j a. other j (omega arith) (λ q. omega arith)) (λ j a c. other j c (λ q. omega arith)))
+    ∙ select-one P t p e
+  where
+    other : (j : ℕ) → j < n → (j ≡ p → ⊥) → P (rowAt t j) ≡ false
+    other j a h = either (P (rowAt t j)) (λ f. absurd (h (only j a f))) (λ f. f)
+
+module _ (t : List ℕ) (ok : acceptedTable t ≡ true) (i : ℕ) (h : i < rowCount t) where
+  pub parent-le : parentOf t i ≤ i
+  unfolding parentOf
+  parent-le = first-le (λ j. isParent (rowAt t i) (rowAt t j)) i
+
+  -- a row without a parent
+  pub no-parents : parentOf t i ≡ i → select (isParent (rowAt t i)) (rows t) ≡ []
+  unfolding parentOf
+  no-parents e = select-none (isParent (rowAt t i)) t 0 (rowCount t) (λ j a c. either (isParent (rowAt t i) (rowAt t j))
+      (λ f. absurd (true≢false (sym f ∙ none-before (λ k. isParent (rowAt t i) (rowAt t k)) i j (omega (arith, behind t ok j i (omega arith) h f)))))
+      (λ f. f))
+
+  module _ (n : parentOf t i ≡ i → ⊥) where
+    pub parent-before : parentOf t i < i
+    parent-before = omega (arith, parent-le)
+
+    pub parent-is : isParent (rowAt t i) (rowAt t (parentOf t i)) ≡ true
+    unfolding parentOf
+    parent-is = at-first (λ j. isParent (rowAt t i) (rowAt t j)) i parent-before
+
+    pub one-parent : select (isParent (rowAt t i)) (rows t) ≡ rowAt t (parentOf t i) ∷ []
+    one-parent = select-only (isParent (rowAt t i)) t (rowCount t) (parentOf t i) (omega (arith, parent-before)) parent-is
+        (λ j l f. same-place t ok j (parentOf t i) l (omega (arith, parent-before))
+        (parent-device (rowAt t i) (rowAt t j) f ∙ sym (parent-device (rowAt t i) (rowAt t (parentOf t i)) parent-is))
+        (parent-at (rowAt t i) (rowAt t j) f ∙ sym (parent-at (rowAt t i) (rowAt t (parentOf t i)) parent-is)))

@@ -1,0 +1,178 @@
+-- A row stays where it passes its mode's test and it is a root or its parent stays. Assumes nothing.
+use Prim.Native.Nat.{ℕ, zero, suc, _<_, _≤_}
+use mathlib.Core.Path.{_≡_, refl, sym, ap, ap₂, subst, _∙_}
+use mathlib.Core.Bool.{Bool, true, false, not, cond, _&&_, _||_, and-false, and-true, true≢false, false≢true}
+use mathlib.Core.List.{List, []}
+use native.Mathlib.Omega.{arith}
+use lib.ListN.{length, getD}
+use lib.Dec.{eqb}
+use borrow.Author.Tests.{eq-eqb, ne-eqb, eqb-true, eqb-false}
+use Rattle.base.specs.Lists.{all, _∈_}
+use Rattle.base.specs.Search.{first}
+use Rattle.base.proofs.Bools.{either}
+use Rattle.base.proofs.Search.{none-before}
+use Rattle.tables.specs.Words.{rowAt, rowCount, rows}
+use Rattle.tables.specs.Rules.{one, around, aroundFrom}
+use Rattle.tables.specs.Tables.{root, isParent}
+use Rattle.tables.specs.declared.Row.{Row}
+use Rattle.tables.proofs.Accepted.{few-rows, has-parent}
+use Rattle.tables.proofs.AcceptedRule.{some-entry}
+use Rattle.tables.proofs.RowLists.{row-in}
+use Rattle.tables.proofs.Proper.{rows-proper}
+use Rattle.logic.specs.Formulas.{Formula, formula}
+use Rattle.logic.specs.Parts.{reached, spare, ancestors, contradiction}
+use Rattle.logic.proofs.Ancestors.{stays-child, stays-root}
+use Rattle.logic.proofs.Contradiction.{no-contradiction}
+use Rattle.parts.specs.Codes.{ofBool, flipped}
+use Rattle.parts.specs.Reaching.{parentOf, noBinders, chainsBelow}
+use Rattle.parts.specs.Omitting.{omittedIn, omittedAt, ReadyOmit}
+use Rattle.parts.specs.Keeping.{OneDevice, ReadyPart, numberOf, leftOut, passes, stays, Marked, ReadyRow, Keeps}
+use Rattle.parts.specs.declared.readings.Reading.{Reading}
+use Rattle.parts.specs.declared.chains.Binders.{Binders}
+use Rattle.parts.specs.declared.keeping.Kept.{Kept}
+use Rattle.parts.proofs.Parentage.{parent-le, parent-before, parent-is}
+
+-- ---- the code's ways
+module _ (parents kept : List ℕ) (i : ℕ) where
+  pub own-parent : getD parents i 0 ≡ i → false ≡ leftOut parents kept i
+  own-parent h = sym (ap (λ (b : Bool). cond b false (eqb (getD kept (getD parents i 0) 0) 0)) (eq-eqb (getD parents i 0) i h))
+
+  pub other-parent : (getD parents i 0 ≡ i → ⊥) → eqb (getD kept (getD parents i 0) 0) 0 ≡ leftOut parents kept i
+  other-parent h = sym (ap (λ (b : Bool). cond b false (eqb (getD kept (getD parents i 0) 0) 0)) (ne-eqb (getD parents i 0) i h))
+
+-- ---- one row
+module _ (rule t parents kept : List ℕ) (m i : ℕ) (ready : ReadyRow rule t parents kept m i) where
+  abbrev F : Formula
+  F = formula rule
+
+  abbrev D : List Row
+  D = rows t
+
+  abbrev stay : ℕ → Bool
+  stay j = stays m F D (rowAt t j)
+
+  ok : OneDevice t
+  ok = ready .ready .device
+
+  parent-at : getD parents i 0 ≡ parentOf t i
+  parent-at = ready .has-parents .holds i (ready .row-inside)
+
+  pub few : rowCount t ≤ 1024
+  few = few-rows t (ok .accepted)
+
+  pub parents-inside : i < length parents
+  parents-inside = omega (arith, few, ready .row-inside, ready .has-parents .sized)
+
+  pub parent-inside : getD parents i 0 < length kept
+  parent-inside = omega (arith, few, ready .row-inside, ready .marked .sized, parent-at, parent-le t (ok .accepted) i (ready .row-inside))
+
+  -- without a parent it is a root
+  is-root : parentOf t i ≡ i → root (rowAt t i) ≡ true
+  unfolding parentOf
+  is-root e = either (root (rowAt t i)) (λ f. f)
+      (λ f. let q = has-parent t (ok .accepted) i (ready .row-inside) f in
+      absurd (true≢false (sym (q .2) ∙ none-before (λ j. isParent (rowAt t i) (rowAt t j)) i (q .0) (omega (arith, q .1)))))
+
+  -- what is left to its own test, once its parent stays
+  own : Bool
+  own = eqb m 1 || passes m F D (rowAt t i)
+
+  go-root : (b : Bool) (r : Bool) → cond b true (passes m F D (rowAt t i) && r) ≡ ((b || passes m F D (rowAt t i)) && cond b true r)
+  go-root true r = refl
+  go-root false r = refl
+
+  stay-root : parentOf t i ≡ i → stay i ≡ own
+  unfolding stays own
+  stay-root e =
+      ap (λ (b : Bool). cond (eqb m 1) true b) (stays-root D (rows-proper t (ok .accepted)) (passes m F D) (rowAt t i) (is-root e))
+      ∙ go-root (eqb m 1) true ∙ go (eqb m 1)
+    where
+      go : (b : Bool) → ((b || passes m F D (rowAt t i)) && cond b true true) ≡ (b || passes m F D (rowAt t i))
+      go true = refl
+      go false = and-true (passes m F D (rowAt t i))
+
+  stay-child : (parentOf t i ≡ i → ⊥) → stay i ≡ (own && stay (parentOf t i))
+  unfolding stays own
+  stay-child n =
+      ap (λ (b : Bool). cond (eqb m 1) true b)
+      (stays-child D (rows-proper t (ok .accepted)) (passes m F D) (rowAt t i) (rowAt t (parentOf t i))
+      (row-in t (parentOf t i) (omega (arith, parent-before t (ok .accepted) i (ready .row-inside) n, ready .row-inside)))
+      (parent-is t (ok .accepted) i (ready .row-inside) n))
+      ∙ go-root (eqb m 1) (passes m F D (rowAt t (parentOf t i)) && all (passes m F D) (ancestors D (rowAt t (parentOf t i))))
+
+  byte-zero : (b : Bool) → eqb (one b) 0 ≡ not b
+  byte-zero true = refl
+  byte-zero false = refl
+
+  parent-byte : (parentOf t i ≡ i → ⊥) → eqb (getD kept (getD parents i 0) 0) 0 ≡ not (stay (parentOf t i))
+  parent-byte n =
+      ap (λ (p : ℕ). eqb (getD kept p 0) 0) parent-at
+      ∙ ap (λ (x : ℕ). eqb x 0) (ready .marked .holds (parentOf t i) (parent-before t (ok .accepted) i (ready .row-inside) n))
+      ∙ byte-zero (stay (parentOf t i))
+
+  module _ (l : Bool) (l-is : l ≡ leftOut parents kept i) where
+    pub parent-lost : l ≡ true → _≡_ {A = ℕ} 0 (one (stay i))
+    parent-lost h = either (eqb (getD parents i 0) i)
+        (λ e. absurd (true≢false (sym h ∙ l-is ∙ ap (λ (b : Bool). cond b false (eqb (getD kept (getD parents i 0) 0) 0)) e)))
+        (λ e. let n : parentOf t i ≡ i → ⊥ = λ q. eqb-false (getD parents i 0) i e (parent-at ∙ q) in
+        let z : not (stay (parentOf t i)) ≡ true = sym (parent-byte n) ∙ sym (ap (λ (b : Bool). cond b false (eqb (getD kept (getD parents i 0) 0) 0)) e) ∙ sym l-is ∙ h in
+        sym (ap one (stay-child n ∙ lost own (stay (parentOf t i)) z)))
+      where
+        lost : (a b : Bool) → not b ≡ true → (a && b) ≡ false
+        lost a true z = absurd (false≢true z)
+        lost a false z = and-false a
+
+    parent-kept : l ≡ false → stay i ≡ own
+    parent-kept h = either (eqb (getD parents i 0) i)
+        (λ e. stay-root (sym parent-at ∙ eqb-true (getD parents i 0) i e))
+        (λ e. let n : parentOf t i ≡ i → ⊥ = λ q. eqb-false (getD parents i 0) i e (parent-at ∙ q) in
+        let z : not (stay (parentOf t i)) ≡ false = sym (parent-byte n) ∙ sym (ap (λ (b : Bool). cond b false (eqb (getD kept (getD parents i 0) 0) 0)) e) ∙ sym l-is ∙ h in
+        stay-child n ∙ kept-one own (stay (parentOf t i)) z)
+      where
+        kept-one : (a b : Bool) → not b ≡ false → (a && b) ≡ a
+        kept-one a true z = and-true a
+        kept-one a false z = absurd (true≢false z)
+
+    pub stays-all : l ≡ false → m ≡ 1 → _≡_ {A = ℕ} 1 (one (stay i))
+    unfolding own
+    stays-all h e = sym (ap one (parent-kept h ∙ ap (λ (b : Bool). b || passes m F D (rowAt t i)) (eq-eqb m 1 e)))
+
+    module _ (by : Binders) (by-is : by ≡ noBinders) where
+      omitted-is : omittedAt m rule t by 0 i ≡ cond (eqb m 2) (not (reached F D (rowAt t i))) (spare F D (rowAt t i))
+      unfolding reached spare chainsBelow
+      omitted-is = ap (λ (z : Binders). omittedAt m rule t z 0 i) by-is
+
+      pub stays-test : l ≡ false → (m ≡ 1 → ⊥) → (x y : Reading) (n : ℕ) → x ≡ ofBool (omittedAt m rule t by 0 i) → y ≡ flipped x → n ≡ numberOf y → n ≡ one (stay i)
+      unfolding own
+      stays-test h e x y n x-is y-is n-is =
+          n-is ∙ ap numberOf (y-is ∙ ap flipped (x-is ∙ ap ofBool omitted-is))
+          ∙ number (cond (eqb m 2) (not (reached F D (rowAt t i))) (spare F D (rowAt t i)))
+          ∙ sym (ap one (parent-kept h ∙ ap (λ (b : Bool). b || passes m F D (rowAt t i)) (ne-eqb m 1 e)))
+        where
+          number : (b : Bool) → numberOf (flipped (ofBool b)) ≡ one (not b)
+          number true = refl
+          number false = refl
+
+  pub start-ready : (by : Binders) → by ≡ noBinders → ReadyOmit rule t parents by 0 i
+  unfolding aroundFrom
+  start-ready by by-is = subst (λ (z : Binders). ReadyOmit rule t parents z 0 i) (sym by-is) (record {
+    rule-accepted = ready .ready .rule-accepted;
+    table-accepted = ok .accepted;
+    has-parents = ready .has-parents;
+    sized = refl;
+    binders = record { inside = λ v h. absurd (omega arith); over = λ v h. absurd (omega arith) };
+    inside = some-entry rule (ready .ready .rule-accepted);
+    depth-is = refl;
+    row-inside = ready .row-inside;
+  })
+
+-- ---- all rows
+pub never-two : (b : Bool) (x : ℕ) → x ≡ one b → x ≡ 2 → ⊥
+never-two true x e h = omega arith
+never-two false x e h = omega arith
+
+pub all-kept : (rule t : List ℕ) (m n : ℕ) (k : Kept) → n ≡ rowCount t → k .contradicted ≡ false → Marked rule t (k .row) m n → Keeps rule t m k
+all-kept rule t m n k n-is e h = record {
+  contradicted = e ∙ sym (ap (λ (b : Bool). eqb m 3 && b) (no-contradiction (formula rule) (rows t)) ∙ and-false (eqb m 3));
+  marked = subst (λ (j : ℕ). Marked rule t (k .row) m j) n-is h;
+}

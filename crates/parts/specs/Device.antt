@@ -1,0 +1,57 @@
+-- What the private functions of the device's side require and promise of a reading. A reader of the public contract need not believe it.
+-- Assumes nothing.
+use Prim.Native.Nat.{ℕ, zero, suc, _+_, _-_, _<_, _≤_}
+use mathlib.Core.Path.{_≡_}
+use mathlib.Core.Bool.{Bool, true, cond, _&&_}
+use mathlib.Core.List.{List}
+use lib.ListN.{getD}
+use lib.Dec.{eqb}
+use Rattle.base.specs.Lists.{select}
+use Rattle.tables.specs.Words.{rowAt, rowCount, rows, rowsFrom, entryAt}
+use Rattle.tables.specs.Tables.{root, isParent}
+use Rattle.tables.specs.declared.Entry.{Entry}
+use Rattle.logic.specs.Formulas.{overOf, operandOf, formulaAt}
+use Rattle.logic.specs.Verdict.{Place, bind, named}
+use Rattle.logic.specs.Reading as meaning
+use Rattle.engine.specs.Ready.{Placed, Ready, ReadyRows, meant, rangedFrom, quantifierOf, comparisonOf}
+use Rattle.engine.specs.declared.bindings.Bindings.{Bindings}
+use Rattle.parts.specs.Codes.{codeOf}
+use Rattle.parts.specs.declared.readings.Reading.{Reading}
+
+-- ---- what a quantifier ranges over
+-- the place that b of a quantifier names: 0 for roots or elsewhere, else 1 + the parent's number
+abbrev pub placeUnder : List ℕ → ℕ → ℕ
+placeUnder places zero = 0
+placeUnder places (suc v) = getD places v 0
+
+-- it ranges over row i, its parent being at that place
+abbrev pub hangsAt : List ℕ → ℕ → ℕ → Bool
+hangsAt t zero i = root (rowAt t i)
+hangsAt t (suc p) i = isParent (rowAt t i) (rowAt t p)
+
+abbrev pub rangedAt : List ℕ → ℕ → ℕ → ℕ → Bool
+rangedAt t place n i = hangsAt t place i && named n (rowAt t i)
+
+-- ---- an entry
+-- a comparison's reading
+abbrev pub comparedAt : List ℕ → Bindings → Entry → meaning.Reading
+comparedAt t b e =
+    meaning.compareReading (comparisonOf (e .kind)) (meaning.valueRead (meant t b (e .a))) (meaning.operandRead (meant t b) (operandOf (e .b) (e .c)))
+
+-- an entry's reading
+abbrev pub readAt : List ℕ → List ℕ → Bindings → ℕ → Reading
+readAt rule t b e = codeOf (meaning.reading (formulaAt rule e) (rows t) (b .depth) (meant t b))
+
+-- ---- a quantifier's entry, over k rows from row i on
+-- its body's reading with its own variable at a place
+abbrev pub bodyAt : List ℕ → List ℕ → Bindings → ℕ → Place → meaning.Reading
+bodyAt rule t b e p = meaning.reading (formulaAt rule (entryAt rule e .a)) (rows t) (suc (b .depth)) (bind (b .depth) p (meant t b))
+
+-- the bodies of those that it ranges over, together
+abbrev pub sweepAt : List ℕ → List ℕ → Bindings → ℕ → ℕ → ℕ → Reading
+sweepAt rule t b e i k = codeOf (meaning.underBound (quantifierOf (entryAt rule e .kind)) (bodyAt rule t b e) (rangedFrom rule t b e i k))
+
+-- it ranges over roots or under a bound row
+pub record ReadySweep (rule t : List ℕ) (b : Bindings) (e i k : ℕ) : Type 0 where
+  pub ready : ReadyRows rule t b e i k
+  pub here : 0 < entryAt rule e .b → 0 < placeUnder (b .row) (entryAt rule e .b)

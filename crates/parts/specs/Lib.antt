@@ -1,0 +1,6 @@
+pub mod Codes
+pub mod Device
+pub mod Reaching
+pub mod Omitting
+pub mod Keeping
+pub mod Sending

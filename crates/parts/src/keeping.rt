@@ -1,0 +1,91 @@
+// Which rows of a device's table its part keeps.
+use super::chains::Binders;
+use super::omitting::omits;
+use super::parents::parents_of;
+use super::readings::Reading;
+use super::readings::flip;
+use super::words::row_count;
+ghost use mathlib.Core.Path.{_≡_};
+ghost use Prim.Native.Nat.{_<_};
+ghost use lib.ListN.{length, getD};
+ghost use Rattle.tables.specs.Words.{rowAt, rows};
+ghost use Rattle.tables.specs.Rules.{one};
+ghost use Rattle.logic.specs.Formulas.{formula};
+ghost use Rattle.parts.specs.Keeping.{numberOf, leftOut, stays, ReadyPart, ReadyRow, Keeps};
+
+// A byte for a row: 1 stays, 0 does not; 2 is refusal 15.
+fn number_of(x: Reading) -> u8
+    ensures { λ r. ⌜ r ≡ numberOf x ⌝ }
+{
+    match x {
+        Reading::True => 1,
+        Reading::False => 0,
+        Reading::Open => 0,
+        Reading::Both => 2,
+    }
+}
+
+// Whether a row has a parent, and that does not stay.
+fn parent_left_out(parents: &[usize], kept: &[u8], row: usize) -> bool
+    requires { ⌜ row < length (now parents) ⌝ }
+    requires { ⌜ getD (now parents) row 0 < length (now kept) ⌝ }
+    ensures { λ r. ⌜ r ≡ leftOut (now (parents .entry)) (now (kept .entry)) row ⌝ }
+{
+    let parent = parents[row];
+    if parent == row {
+        return false;
+    }
+    kept[parent] == 0
+}
+
+// Whether a row stays: it passes the mode's test, and it is a root or its parent stays.
+fn row_stays(
+    rule: &[u32],
+    table: &[u32],
+    parents: &[usize],
+    kept: &[u8],
+    mode: u32,
+    row: usize,
+) -> u8
+    requires { ⌜ ReadyRow (now rule) (now table) (now parents) (now kept) mode row ⌝ }
+    ensures { λ r. ⌜ r ≡ one (stays mode (formula (now (rule .entry))) (rows (now (table .entry))) (rowAt (now (table .entry)) row)) ⌝ }
+{
+    if parent_left_out(parents, kept, row) {
+        return 0;
+    }
+    if mode == 1 {
+        return 1;
+    }
+    number_of(flip(omits(rule, table, parents, Binders::none(), 0, row, mode)))
+}
+
+// A byte for each row, and whether refusal 15 was met.
+pub struct Kept {
+    pub contradicted: bool,
+    pub row: [u8; 1024],
+}
+
+pub(crate) fn kept_rows(rule: &[u32], table: &[u32], mode: u32) -> Kept
+    requires { ⌜ ReadyPart (now rule) (now table) ⌝ }
+    ensures { λ r. ⌜ Keeps (now (rule .entry)) (now (table .entry)) mode r ⌝ }
+{
+    let parents = parents_of(table);
+    let n = row_count(table);
+    let mut kept = [0u8; 1024];
+    let mut i = 0;
+    while i < n {
+        let x = row_stays(rule, table, &parents, &kept, mode, i);
+        if x == 2 {
+            return Kept {
+                contradicted: true,
+                row: kept,
+            };
+        }
+        kept[i] = x;
+        i += 1;
+    }
+    Kept {
+        contradicted: false,
+        row: kept,
+    }
+}

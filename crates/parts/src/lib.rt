@@ -1,0 +1,13 @@
+// The part of its rows that a device sends, by the rule and the mode.
+mod calls;
+mod chains;
+mod device;
+mod keeping;
+mod omitting;
+mod parents;
+mod ranges;
+mod readings;
+mod sending;
+mod words;
+
+pub use calls::part;

@@ -1,0 +1,48 @@
+// The parents of one device's rows.
+use super::words::row_at;
+use super::words::row_count;
+ghost use mathlib.Core.Path.{_≡_};
+ghost use Prim.Native.Nat.{_<_};
+ghost use Rattle.tables.specs.Words.{rowCount};
+ghost use Rattle.parts.specs.Reaching.{parentOf, Parents};
+ghost use Rattle.parts.specs.Keeping.{OneDevice};
+
+// The number of a row's parent, or the row's own where it has none. Rows of one device rise by `at`: it is looked for by halves.
+fn parent_of(table: &[u32], row: usize) -> usize
+    requires { ⌜ OneDevice (now table) ⌝ }
+    requires { ⌜ row < rowCount (now table) ⌝ }
+    ensures { λ r. ⌜ r ≡ parentOf (now (table .entry)) row ⌝ }
+{
+    let up = row_at(table, row).up;
+    let mut low = 0;
+    let mut high = row;
+    while low < high {
+        let middle = low + (high - low) / 2;
+        if row_at(table, middle).at < up {
+            low = middle + 1;
+        } else {
+            high = middle;
+        }
+    }
+    if low < row {
+        if row_at(table, low).at == up {
+            return low;
+        }
+    }
+    row
+}
+
+// Each row's.
+pub(crate) fn parents_of(table: &[u32]) -> [usize; 1024]
+    requires { ⌜ OneDevice (now table) ⌝ }
+    ensures { λ r. ⌜ Parents (now (table .entry)) r ⌝ }
+{
+    let n = row_count(table);
+    let mut parents = [0usize; 1024];
+    let mut i = 0;
+    while i < n {
+        parents[i] = parent_of(table, i);
+        i += 1;
+    }
+    parents
+}

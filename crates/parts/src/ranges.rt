@@ -1,0 +1,56 @@
+// The rows that a quantifier ranges over, once its parent's place is known: 0 for roots, else 1 + the parent's number.
+use super::words::row_at;
+use engine::Bindings;
+ghost use mathlib.Core.Path.{_≡_};
+ghost use Prim.Native.Nat.{ℕ, _+_, _<_, _≤_};
+ghost use lib.ListN.{getD};
+ghost use Rattle.base.specs.Search.{first};
+ghost use Rattle.tables.specs.Words.{rowCount};
+ghost use Rattle.parts.specs.Device.{placeUnder, rangedAt};
+
+// The place of a variable: 0 for elsewhere, else 1 + the row's number.
+pub(crate) fn place_of(b: Bindings, variable: usize) -> usize
+    requires { ⌜ variable < 8 ⌝ }
+    ensures { λ r. ⌜ r ≡ getD (b .row) variable 0 ⌝ }
+{
+    b.row[variable]
+}
+
+// The place of the parent that b of a quantifier names.
+pub(crate) fn place_under(b: Bindings, under: usize) -> usize
+    requires { ⌜ under ≤ 8 ⌝ }
+    ensures { λ r. ⌜ r ≡ placeUnder (b .row) under ⌝ }
+{
+    if under == 0 {
+        return 0;
+    }
+    place_of(b, under - 1)
+}
+
+// Whether it ranges over a row.
+fn ranged(table: &[u32], place: usize, name: u32, row: usize) -> bool
+    requires { ⌜ (place ≤ rowCount (now table)) × (row < rowCount (now table)) ⌝ }
+    ensures { λ r. ⌜ r ≡ rangedAt (now (table .entry)) place name row ⌝ }
+{
+    let r = row_at(table, row);
+    if place == 0 {
+        return (r.up == 0) & (r.name == name);
+    }
+    let p = row_at(table, place - 1);
+    (p.device == r.device) & (p.at == r.up) & (r.name == name)
+}
+
+// The first of `rows` rows from `row` on that it ranges over, or the end.
+pub(crate) fn next_ranged(table: &[u32], place: usize, name: u32, row: usize, rows: usize) -> usize
+    requires { ⌜ (place ≤ rowCount (now table)) × (row + rows ≤ rowCount (now table)) ⌝ }
+    ensures { λ r. ⌜ r ≡ row + first (λ (j : ℕ). rangedAt (now (table .entry)) place name (row + j)) rows ⌝ }
+{
+    let mut i = 0;
+    while i < rows {
+        if ranged(table, place, name, row + i) {
+            return row + i;
+        }
+        i += 1;
+    }
+    row + rows
+}

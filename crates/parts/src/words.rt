@@ -1,0 +1,60 @@
+// Entries and rows as the code reads them.
+use tables::Entry;
+use tables::Row;
+ghost use mathlib.Core.Path.{_≡_};
+ghost use Prim.Native.Nat.{_<_};
+ghost use Rattle.tables.specs.Words.{rowAt, rowCount, entryAt, entryCount};
+
+// The words of a row and of an entry, in their order.
+const ROW_WORDS: usize = 5;
+
+const DEVICE: usize = 0;
+
+const AT: usize = 1;
+
+const UP: usize = 2;
+
+const NAME: usize = 3;
+
+const VALUE: usize = 4;
+
+const ENTRY_WORDS: usize = 4;
+
+const KIND: usize = 0;
+
+const A: usize = 1;
+
+const B: usize = 2;
+
+const C: usize = 3;
+
+pub(crate) fn row_at(t: &[u32], i: usize) -> Row
+    requires { ⌜ i < rowCount (now t) ⌝ }
+    ensures { λ r. ⌜ r ≡ rowAt (now (t .entry)) i ⌝ }
+{
+    Row {
+        device: t[ROW_WORDS * i + DEVICE],
+        at: t[ROW_WORDS * i + AT],
+        up: t[ROW_WORDS * i + UP],
+        name: t[ROW_WORDS * i + NAME],
+        value: t[ROW_WORDS * i + VALUE],
+    }
+}
+
+pub(crate) fn row_count(t: &[u32]) -> usize
+    ensures { λ r. ⌜ r ≡ rowCount (now (t .entry)) ⌝ }
+{
+    t.len() / ROW_WORDS
+}
+
+pub(crate) fn entry_at(rule: &[u32], i: usize) -> Entry
+    requires { ⌜ i < entryCount (now rule) ⌝ }
+    ensures { λ r. ⌜ r ≡ entryAt (now (rule .entry)) i ⌝ }
+{
+    Entry {
+        kind: rule[ENTRY_WORDS * i + KIND],
+        a: rule[ENTRY_WORDS * i + A],
+        b: rule[ENTRY_WORDS * i + B],
+        c: rule[ENTRY_WORDS * i + C],
+    }
+}
