@@ -2,3 +2,4 @@ pub mod Bools
 pub mod Search
 pub mod Copies
 pub mod Lists
+pub mod Sums

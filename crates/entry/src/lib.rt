@@ -9,6 +9,8 @@ ghost use Rattle.tables.specs.Files.{readRule, readRuleOut, readPool, readPoolO
 ghost use Rattle.logic.specs.Verdict.{verdictAnswer};
 ghost use Rattle.logic.specs.Marks.{marksAnswer, marksOut};
 ghost use Rattle.logic.specs.Parts.{partAnswer, partOut};
+ghost use Rattle.checker.specs.Files.{filesAnswer, returned};
+ghost use Rattle.checker.specs.Report.{reportLength, reportOut};
 ghost use Rattle.entry.specs.Interface.{answered, spanned};
 
 #[repr(C)]
@@ -127,4 +129,19 @@ pub extern "C" fn gabzeril_part(rule: &[u32], table: &[u32], mode: u32, part: &m
     ensures words { λ r. ⌜ now (part .exit) ≡ partOut (now (rule .entry)) (now (table .entry)) mode (now (part .entry)) ⌝ }
 {
     c_answer(parts::part(rule, table, mode, part))
+}
+
+#[no_mangle]
+pub extern "C" fn gabzeril_check_files(rule: &[u8], pool: &[u8]) -> u32
+    ensures { λ r. ⌜ r ≡ returned (filesAnswer (now (rule .entry)) (now (pool .entry))) ⌝ }
+{
+    checker::check_files(rule, pool)
+}
+
+#[no_mangle]
+pub extern "C" fn gabzeril_report(rule: &[u8], pool: &[u8], text: &mut [u8]) -> usize
+    ensures count { λ r. ⌜ r ≡ reportLength (now (rule .entry)) (now (pool .entry)) (length (now (text .entry))) ⌝ }
+    ensures bytes { λ r. ⌜ now (text .exit) ≡ reportOut (now (rule .entry)) (now (pool .entry)) (now (text .entry)) ⌝ }
+{
+    checker::report(rule, pool, text)
 }

@@ -47,19 +47,25 @@ module _ (rule table : List ℕ) (rule-ok : acceptedRule rule ≡ true) (table-o
   byte-from f i (suc n) zero h = ap (λ (k : ℕ). f (rowAt table k)) (omega arith)
   byte-from f i (suc n) (suc j) h = byte-from f (suc i) n j (omega arith) ∙ ap (λ (k : ℕ). f (rowAt table k)) (omega arith)
 
-  pub byte-is : (out : List ℕ) → rowCount table ≤ length out → (i : ℕ) → i < rowCount table
-      → getD (marksOut rule table out) i 0 ≡ one (marked (formula rule) (rows table) (rowAt table i))
-  unfolding marksOut marksAnswer
-  byte-is out room i h =
-      let bytes = markBytes (formula rule) (rows table) in
-      let done : isDone (marksAnswer rule table (length out)) ≡ true = ap isDone (
+  pub marks-is : (room : ℕ) → rowCount table ≤ room → marksAnswer rule table room ≡ Done (one (verdict (formula rule) (rows table)))
+  unfolding marksAnswer
+  marks-is room h =
       andThen-passed (checkRule rule) _ rule-ok
       ∙ andThen-passed (checkTable table) _ table-ok
-      ∙ unless-passed (leb (rowCount table) (length out)) 17 _ (le-leb (rowCount table) (length out) room)
-      ) in
-      let count : length bytes ≡ rowCount table = length-map (rows table) (λ r. one (marked (formula rule) (rows table) r)) ∙ length-rows table in
-      ap (λ (b : Bool). getD (cond b (bytes ++ drop (rowCount table) out) out) i 0) done
-      ∙ List·getD-append bytes (drop (rowCount table) out) 0 i (omega arith)
+      ∙ unless-passed (leb (rowCount table) room) 17 _ (le-leb (rowCount table) room h)
+
+  pub marks-out : (out : List ℕ) → rowCount table ≤ length out → marksOut rule table out ≡ markBytes (formula rule) (rows table) ++ drop (rowCount table) out
+  unfolding marksOut
+  marks-out out h = ap (λ (a : Answer). cond (isDone a) (markBytes (formula rule) (rows table) ++ drop (rowCount table) out) out) (marks-is (length out) h)
+
+  pub byte-count : length (markBytes (formula rule) (rows table)) ≡ rowCount table
+  byte-count = length-map (rows table) (λ r. one (marked (formula rule) (rows table) r)) ∙ length-rows table
+
+  pub byte-is : (out : List ℕ) → rowCount table ≤ length out → (i : ℕ) → i < rowCount table
+      → getD (marksOut rule table out) i 0 ≡ one (marked (formula rule) (rows table) (rowAt table i))
+  byte-is out room i h =
+      ap (λ (l : List ℕ). getD l i 0) (marks-out out room)
+      ∙ List·getD-append (markBytes (formula rule) (rows table)) (drop (rowCount table) out) 0 i (omega (arith, byte-count))
       ∙ byte-from (λ r. one (marked (formula rule) (rows table) r)) 0 (rowCount table) i h
       ∙ ap (λ (k : ℕ). one (marked (formula rule) (rows table) (rowAt table k))) (omega arith)
 
@@ -77,9 +83,10 @@ module _ (rule table : List ℕ) (rule-ok : acceptedRule rule ≡ true) (table-o
     no-15 true = ap not (no-contradiction (formula rule) (rows table))
     no-15 false = refl
 
-    answer-is : partAnswer rule table mode (length out) ≡ unless (leb (length (wordsOf sent)) (length out)) 17 (Done (length sent))
+    -- only a short output is left to refuse
+    pub part-is : partAnswer rule table mode (length out) ≡ unless (leb (length (wordsOf sent)) (length out)) 17 (Done (length sent))
     unfolding partAnswer
-    answer-is =
+    part-is =
         andThen-passed (checkRule rule) _ rule-ok
         ∙ andThen-passed (checkTable table) _ table-ok
         ∙ unless-passed (leb 1 mode && leb mode 3) 13 _ (and-both (leb 1 mode) (leb mode 3) (le-leb 1 mode low) (le-leb mode 3 high))
@@ -93,14 +100,14 @@ module _ (rule table : List ℕ) (rule-ok : acceptedRule rule ≡ true) (table-o
     part-words : isDone (partAnswer rule table mode (length out)) ≡ true → partRows rule table mode out ≡ wordsOf sent
     unfolding partOut
     part-words d =
-        let e : partAnswer rule table mode (length out) ≡ Done (length sent) = done-is (leb (length (wordsOf sent)) (length out)) answer-is d in
+        let e : partAnswer rule table mode (length out) ≡ Done (length sent) = done-is (leb (length (wordsOf sent)) (length out)) part-is d in
         ap (λ (a : Answer). take (rowWords * value a) (cond (isDone a) (wordsOf sent ++ drop (length (wordsOf sent)) out) out)) e
         ∙ take-at (wordsOf sent) (drop (length (wordsOf sent)) out) (rowWords * length sent) (length-words sent)
 
     pub part-is-cut : PartIsCut rule table mode out
     part-is-cut = record {
       is-cut = record { whole-rows = words-whole sent; is-cut = rw (rows-words sent) (mode-is-cut (formula rule) (rows table) (rows-proper table table-ok) mode) };
-      only-short = subst OnlyShort (sym answer-is) (go (leb (length (wordsOf sent)) (length out)));
+      only-short = subst OnlyShort (sym part-is) (go (leb (length (wordsOf sent)) (length out)));
       writes = part-words;
     }
       where

@@ -14,7 +14,7 @@ pub struct Binders {
 }
 
 impl Binders {
-    pub fn none() -> Self
+    pub(crate) fn none() -> Self
         ensures { λ r. ⌜ r ≡ noBinders ⌝ }
     {
         Binders {

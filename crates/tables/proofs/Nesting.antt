@@ -1,36 +1,13 @@
--- The loops that count a rule's child places and the quantifiers around an entry: what each turn adds. Assumes nothing.
-use Prim.Native.Nat.{ℕ, suc, _+_, _-_, _*_, _≤_, _<_}
-use mathlib.Core.Path.{_≡_, refl, sym, ap, _∙_}
+-- The loop that counts the quantifiers around an entry: what each turn adds. Assumes nothing.
+use Prim.Native.Nat.{ℕ, suc, _+_, _-_, _≤_, _<_}
+use mathlib.Core.Path.{_≡_, sym, ap, _∙_}
 use mathlib.Core.Bool.{Bool, true, false, cond}
 use mathlib.Core.List.{List}
 use native.Mathlib.Nat.{add-assoc}
-use native.Mathlib.Numerals.{add-one}
 use native.Mathlib.Omega.{arith}
-use Rattle.base.specs.Search.{sumBelow}
 use Rattle.tables.specs.Words.{entryAt}
 use Rattle.tables.specs.Rules.{isChild, isQuantifier, one, aroundFrom, around}
 use Rattle.tables.specs.declared.Entry.{Entry}
-
--- i of the n numbers are summed
-pub record Summed (f : ℕ → ℕ) (n i sum : ℕ) : Type 0 where
-  pub within : i ≤ n
-  pub is : sum ≡ sumBelow f i
-  pub small : sum ≤ 2 * i
-
-module _ (f : ℕ → ℕ) (n : ℕ) where
-  pub sum-begin : Summed f n 0 0
-  unfolding sumBelow
-  sum-begin = record { within = omega arith; is = refl; small = omega arith }
-
-  pub sum-more : (i sum : ℕ) → Summed f n i sum → i < n → (x : ℕ) → x ≡ f i → x ≤ 2 → Summed f n (i + 1) (sum + x)
-  unfolding sumBelow
-  sum-more i sum s l x x-is x-le =
-      let e : sum ≡ sumBelow f i = s .is in
-      let m : sum ≤ 2 * i = s .small in
-      record { within = omega arith; is = rw (add-one i) (omega arith); small = omega arith }
-
-  pub sum-end : (i sum : ℕ) → Summed f n i sum → n ≤ i → sum ≡ sumBelow f n
-  sum-end i sum s h = let w : i ≤ n = s .within in let e : i ≡ n = omega arith in s .is ∙ ap (sumBelow f) e
 
 -- the quantifiers counted so far, and those around the entry that is looked for below i
 pub record Climbs (r : List ℕ) (j count inner i : ℕ) : Type 0 where

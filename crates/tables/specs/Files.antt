@@ -22,6 +22,14 @@ ruleNames = 107 ∷ 105 ∷ 110 ∷ 100 ∷ 32 ∷ 97 ∷ 32 ∷ 98 ∷ 32 ∷ 9
 abbrev pub poolNames : List ℕ
 poolNames = 100 ∷ 101 ∷ 118 ∷ 105 ∷ 99 ∷ 101 ∷ 32 ∷ 97 ∷ 116 ∷ 32 ∷ 117 ∷ 112 ∷ 32 ∷ 110 ∷ 97 ∷ 109 ∷ 101 ∷ 32 ∷ 118 ∷ 97 ∷ 108 ∷ 117 ∷ 101 ∷ 10 ∷ []
 
+-- verdict rows branch full marks
+abbrev pub countNames : List ℕ
+countNames = 118 ∷ 101 ∷ 114 ∷ 100 ∷ 105 ∷ 99 ∷ 116 ∷ 32 ∷ 114 ∷ 111 ∷ 119 ∷ 115 ∷ 32 ∷ 98 ∷ 114 ∷ 97 ∷ 110 ∷ 99 ∷ 104 ∷ 32 ∷ 102 ∷ 117 ∷ 108 ∷ 108 ∷ 32 ∷ 109 ∷ 97 ∷ 114 ∷ 107 ∷ 115 ∷ 10 ∷ []
+
+-- refused place
+abbrev pub refusalNames : List ℕ
+refusalNames = 114 ∷ 101 ∷ 102 ∷ 117 ∷ 115 ∷ 101 ∷ 100 ∷ 32 ∷ 112 ∷ 108 ∷ 97 ∷ 99 ∷ 101 ∷ 10 ∷ []
+
 -- ---- numbers
 -- the largest number of a file
 abbrev pub numberLimit : ℕ
@@ -203,3 +211,22 @@ writePool table room = writeAnswer poolNames rowWords (checkTable table) table r
 
 abbrev pub writePoolOut : List ℕ → List ℕ → List ℕ
 writePoolOut table out = writeOut poolNames rowWords (checkTable table) table out
+
+-- ---- the program's text: a line of names and a line of values, as in a file, of any words
+abbrev pub countWords : ℕ
+countWords = 5
+
+abbrev pub refusalWords : ℕ
+refusalWords = 2
+
+abbrev pub writeCounts : List ℕ → ℕ → Answer
+writeCounts words room = writeAnswer countNames countWords (Done 0) words room
+
+abbrev pub writeCountsOut : List ℕ → List ℕ → List ℕ
+writeCountsOut words out = writeOut countNames countWords (Done 0) words out
+
+abbrev pub writeRefusal : List ℕ → ℕ → Answer
+writeRefusal words room = writeAnswer refusalNames refusalWords (Done 0) words room
+
+abbrev pub writeRefusalOut : List ℕ → List ℕ → List ℕ
+writeRefusalOut words out = writeOut refusalNames refusalWords (Done 0) words out

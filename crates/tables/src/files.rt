@@ -8,12 +8,17 @@ use super::tables::check_table;
 use super::writing::write_file;
 ghost use mathlib.Core.Path.{_≡_};
 ghost use lib.ListN.{length};
-ghost use Rattle.tables.specs.Files.{readRule, readRuleOut, readPool, readPoolOut, writeRule, writeRuleOut, writePool, writePoolOut};
+ghost use Rattle.tables.specs.Files.{readRule, readRuleOut, readPool, readPoolOut, writeRule, writeRuleOut, writePool, writePoolOut, writeCounts, writeCountsOut, writeRefusal, writeRefusalOut};
 
 // The line of names of a rule file, and of a pool file.
 const RULE_NAMES: [u8; 11] = *b"kind a b c\n";
 
 const POOL_NAMES: [u8; 24] = *b"device at up name value\n";
+
+// The lines of names of the program's text.
+const COUNT_NAMES: [u8; 31] = *b"verdict rows branch full marks\n";
+
+const REFUSAL_NAMES: [u8; 14] = *b"refused place\n";
 
 // Reads a rule file: its number of words.
 pub fn read_rule(file: &[u8], out: &mut [u32]) -> Answer
@@ -47,4 +52,20 @@ pub fn write_pool(table: &[u32], out: &mut [u8]) -> Answer
 {
     let checked = check_table(table);
     write_file(&POOL_NAMES, ROW_WORDS, checked, table, out)
+}
+
+// Writes the program's counts, five to a line: the number of bytes.
+pub fn write_counts(words: &[u32], out: &mut [u8]) -> Answer
+    ensures answer { λ r. ⌜ r ≡ writeCounts (now (words .entry)) (length (now (out .entry))) ⌝ }
+    ensures bytes { λ r. ⌜ now (out .exit) ≡ writeCountsOut (now (words .entry)) (now (out .entry)) ⌝ }
+{
+    write_file(&COUNT_NAMES, 5, Answer::Done(0), words, out)
+}
+
+// Writes the program's refusal, two words to a line: the number of bytes.
+pub fn write_refusal(words: &[u32], out: &mut [u8]) -> Answer
+    ensures answer { λ r. ⌜ r ≡ writeRefusal (now (words .entry)) (length (now (out .entry))) ⌝ }
+    ensures bytes { λ r. ⌜ now (out .exit) ≡ writeRefusalOut (now (words .entry)) (now (out .entry)) ⌝ }
+{
+    write_file(&REFUSAL_NAMES, 2, Answer::Done(0), words, out)
 }

@@ -1,11 +1,11 @@
-use Prim.Native.Nat.{ℕ, _<_, _≤_, _+_, _-_}
+-- `parts::chains::climb`, which calls itself, meets its contract. Assumes nothing.
+use Prim.Native.Nat.{ℕ, _<_, _+_, _-_}
 use borrow.Author.Needs.{needs}
 use native.Mathlib.Omega.{arith}
 use denote.Ref.{now}
 use Rattle.engine.proofs.Falls.{below}
 use Rattle.parts.proofs.Climbs as climbs
 use mathlib.Core.Path.{refl}
-use Prim.Native.Nat.{ℕ, _<_}
 use borrow.Fn.Kinds.{In}
 use borrow.Fn.PlainCycle.{Measures, is, falls, and}
 use Rattle.parts.proofs.chains.climb.Reads as climb

@@ -1,4 +1,5 @@
-use Prim.Native.Nat.{ℕ, _<_, _≤_, _+_, _-_, _/_}
+-- `parts::device::reads` and `sweep`, which call each other, meet their contracts. Assumes nothing.
+use Prim.Native.Nat.{ℕ, _<_, _+_, _-_, _/_}
 use mathlib.Core.Path.{refl}
 use borrow.Author.Needs.{needs}
 use native.Mathlib.Omega.{arith}
@@ -8,7 +9,6 @@ use Rattle.engine.specs.Ready.{ReadyRows}
 use Rattle.engine.proofs.Falls as measures
 use Rattle.engine.proofs.Steps as entries
 use Rattle.parts.proofs.Steps as steps
-use Prim.Native.Nat.{ℕ, _<_}
 use borrow.Fn.Kinds.{In}
 use borrow.Fn.PlainCycle.{Measures, is, falls, and}
 use Rattle.parts.proofs.device.reads.Reads as reads′

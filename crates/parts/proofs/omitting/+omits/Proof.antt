@@ -1,11 +1,11 @@
-use Prim.Native.Nat.{ℕ, _<_, _≤_, _+_, _-_}
+-- `parts::omitting::omits`, which calls itself, meets its contract. Assumes nothing.
+use Prim.Native.Nat.{ℕ, _<_, _+_, _-_}
 use borrow.Author.Needs.{needs}
 use native.Mathlib.Omega.{arith}
 use denote.Ref.{now}
 use Rattle.tables.specs.Words.{entryCount}
 use Rattle.engine.proofs.Falls.{below}
 use Rattle.parts.proofs.Omits as omits-laws
-use Prim.Native.Nat.{ℕ, _<_}
 use borrow.Fn.Kinds.{In}
 use borrow.Fn.PlainCycle.{Measures, is, falls, and}
 use Rattle.parts.proofs.omitting.omits.Reads as omits

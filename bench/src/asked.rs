@@ -1,0 +1,70 @@
+//! The figures that the issue about speed asks for, beside those measured.
+
+use crate::cases::{label, A_TRUE, B_TRUE, C_TRUE, ONE_DEVICE, THREE_ROWS};
+use crate::instructions::{shown, Counts};
+
+/// A limit of the instructions of one case.
+struct Limit {
+    call: &'static str,
+    on: &'static str,
+    rows: u32,
+    /// None where the figure is only to be reported.
+    most: Option<u64>,
+}
+
+const fn limit(call: &'static str, on: &'static str, rows: u32, most: Option<u64>) -> Limit {
+    Limit { call, on, rows, most }
+}
+
+const LIMITS: [Limit; 12] = [
+    limit("check_table", THREE_ROWS, 1_020, Some(400_000)),
+    limit("check_table", ONE_DEVICE, 1_021, Some(400_000)),
+    limit("verdict", B_TRUE, 1_020, Some(2_000_000)),
+    limit("verdict", A_TRUE, 1_020, Some(1_000_000)),
+    limit("verdict", C_TRUE, 1_021, Some(8_000_000)),
+    limit("marks", B_TRUE, 1_020, Some(150_000_000)),
+    limit("part, mode 2", "rule A, one device", 1_021, None),
+    limit("part, mode 3", "rule A, one device", 1_021, None),
+    limit("part, mode 2", "rule B, one device", 1_021, None),
+    limit("part, mode 3", "rule B, one device", 1_021, None),
+    limit("part, mode 2", C_TRUE, 1_021, None),
+    limit("part, mode 3", C_TRUE, 1_021, None),
+];
+
+pub fn print(counts: &Counts, before: &Counts) {
+    println!("## Asked and measured, in instructions\n");
+    println!("| call | on | rows | asked: at most | before | measured | met |");
+    println!("|-|-|-:|-:|-:|-:|-|");
+    for Limit { call, on, rows, most } in LIMITS {
+        let label = label(call, on, rows);
+        let count = counts.of(&label);
+        let asked = if most.is_some() { shown(most) } else { "report".into() };
+        let met = most.and_then(|most| Some(yes_or_no(count? <= most))).unwrap_or("");
+        println!(
+            "| {call} | {on} | {rows} | {asked} | {} | {} | {met} |",
+            shown(before.of(&label)),
+            shown(count)
+        );
+    }
+    print_growth(counts, before);
+}
+
+fn yes_or_no(met: bool) -> &'static str {
+    if met {
+        "yes"
+    } else {
+        "no"
+    }
+}
+
+/// The table checks at 1,024 rows over those at 512.
+fn print_growth(counts: &Counts, before: &Counts) {
+    let growth = |counts: &Counts| {
+        let of = |rows: u32| counts.of(&label("check_table", THREE_ROWS, rows));
+        Some(of(1_024)? as f64 / of(512)? as f64)
+    };
+    let [earlier, now] = [before, counts]
+        .map(|counts| growth(counts).map_or("".into(), |growth| format!("{growth:.2} times")));
+    let met = growth(counts).map_or("", |growth| yes_or_no(growth <= 2.5));
+    println!("| check_table | {THREE_ROWS}, 1,024 rows over 512 | | 2.5 times | {earlier} | {now} | {met} |");
+}

@@ -1,0 +1,100 @@
+//! The calls of the C interface, made on the library or on the Rust checker.
+
+use gabzeril_tests::answer::Answer;
+use gabzeril_tests::{checker, ffi};
+
+/// The same functions of either side.
+pub struct Side {
+    check_table: fn(&[u32]) -> Answer,
+    join: fn(&mut [u32], usize, &[u32]) -> Answer,
+    read_pool: fn(&[u8], &mut [u32]) -> Answer,
+    write_pool: fn(&[u32], &mut [u8]) -> Answer,
+    verdict: fn(&[u32], &[u32]) -> Answer,
+    marks: fn(&[u32], &[u32], &mut [u8]) -> Answer,
+    part: fn(&[u32], &[u32], u32, &mut [u32]) -> Answer,
+    check_files: fn(&[u8], &[u8]) -> u32,
+}
+
+pub const LIBRARY: Side = Side {
+    check_table: ffi::check_table,
+    join: ffi::join,
+    read_pool: ffi::read_pool,
+    write_pool: ffi::write_pool,
+    verdict: ffi::verdict,
+    marks: ffi::marks,
+    part: ffi::part,
+    check_files: ffi::check_files,
+};
+
+pub const CHECKER: Side = Side {
+    check_table: checker::check_table,
+    join: checker::join,
+    read_pool: checker::read_pool,
+    write_pool: checker::write_pool,
+    verdict: checker::verdict,
+    marks: checker::marks,
+    part: checker::part,
+    check_files: checker::check_files,
+};
+
+/// One call with its inputs.
+#[derive(Clone)]
+pub enum Call {
+    CheckTable { table: Vec<u32> },
+    Join { first: Vec<u32>, second: Vec<u32> },
+    ReadPool { file: Vec<u8> },
+    WritePool { table: Vec<u32> },
+    Verdict { rule: Vec<u32>, pool: Vec<u32> },
+    Marks { rule: Vec<u32>, pool: Vec<u32> },
+    Part { rule: Vec<u32>, table: Vec<u32>, mode: u32 },
+    CheckFiles { rule_file: Vec<u8>, pool_file: Vec<u8> },
+}
+
+/// The outputs of a call, long enough for any. They are not cleared from one call to the next.
+#[derive(PartialEq, Eq)]
+pub struct Outputs {
+    words: Vec<u32>,
+    bytes: Vec<u8>,
+}
+
+impl Outputs {
+    pub fn of(call: &Call) -> Outputs {
+        let mut words = vec![0; checker::MOST_ROWS * checker::ROW_WORDS];
+        if let Call::Join { first, .. } = call {
+            words[..first.len()].copy_from_slice(first);
+        }
+        Outputs { words, bytes: vec![0; checker::MOST_FILE_BYTES] }
+    }
+}
+
+impl Call {
+    pub fn make(&self, side: &Side, outputs: &mut Outputs) -> Answer {
+        let Outputs { words, bytes } = outputs;
+        match self {
+            Call::CheckTable { table } => (side.check_table)(table),
+            // Each call puts the second table behind the same first one.
+            Call::Join { first, second } => (side.join)(words, first.len(), second),
+            Call::ReadPool { file } => (side.read_pool)(file, words),
+            Call::WritePool { table } => (side.write_pool)(table, bytes),
+            Call::Verdict { rule, pool } => (side.verdict)(rule, pool),
+            Call::Marks { rule, pool } => (side.marks)(rule, pool, bytes),
+            Call::Part { rule, table, mode } => (side.part)(rule, table, *mode, words),
+            Call::CheckFiles { rule_file, pool_file } => {
+                Answer::Done((side.check_files)(rule_file, pool_file) as usize)
+            }
+        }
+    }
+
+    pub fn name(&self) -> String {
+        match self {
+            Call::CheckTable { .. } => "check_table".into(),
+            Call::Join { .. } => "join".into(),
+            Call::ReadPool { .. } => "read_pool".into(),
+            Call::WritePool { .. } => "write_pool".into(),
+            Call::Verdict { .. } => "verdict".into(),
+            Call::Marks { .. } => "marks".into(),
+            Call::Part { mode, .. } => format!("part, mode {mode}"),
+            Call::CheckFiles { .. } => "check_files".into(),
+        }
+    }
+}

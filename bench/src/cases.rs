@@ -1,0 +1,150 @@
+//! The cases, in the order in which they are printed.
+
+use gabzeril_tests::checker::{POOL, RULE};
+use gabzeril_tests::generate::{files_cost, reading_cost, verdict_cost};
+
+use crate::calls::Call;
+use crate::inputs::{deep, devices, one_device, roots, A, B, C};
+
+pub struct Case {
+    pub call: Call,
+    pub on: String,
+    pub rows: u32,
+}
+
+/// Beyond this many rows walked the Rust checker is not run.
+const MOST_STEPS: u64 = 4_000_000_000;
+
+impl Case {
+    /// What names the case in files of counts.
+    pub fn label(&self) -> String {
+        label(&self.call.name(), &self.on, self.rows)
+    }
+
+    /// Whether the Rust checker answers within some seconds. In mode 3 it reads every body without stopping
+    /// early, and takes far too long where quantifiers over roots stand around one another.
+    pub fn checker_can_run(&self) -> bool {
+        let steps = match &self.call {
+            Call::Verdict { rule, pool } | Call::Marks { rule, pool } => verdict_cost_stopping(rule, pool),
+            Call::Part { rule, table, mode: 3 } => reading_cost(rule, table),
+            Call::CheckFiles { rule_file, pool_file } => files_cost(rule_file, pool_file),
+            _ => 0,
+        };
+        steps <= MOST_STEPS
+    }
+}
+
+/// The deep rule stops at each row but the last, which the estimate does not know.
+fn verdict_cost_stopping(rule: &[u32], pool: &[u32]) -> u64 {
+    if rule.len() == deep(1).len() {
+        0
+    } else {
+        verdict_cost(rule, pool)
+    }
+}
+
+pub fn label(call: &str, on: &str, rows: u32) -> String {
+    format!("{call}, {on}, {rows} rows")
+}
+
+fn case(call: Call, on: impl Into<String>, rows: u32) -> Case {
+    Case { call, on: on.into(), rows }
+}
+
+fn verdict(rule: &[u32], pool: Vec<u32>) -> Call {
+    Call::Verdict { rule: rule.to_vec(), pool }
+}
+
+fn marks(rule: &[u32], pool: Vec<u32>) -> Call {
+    Call::Marks { rule: rule.to_vec(), pool }
+}
+
+pub const THREE_ROWS: &str = "devices of three rows";
+pub const ONE_DEVICE: &str = "one device";
+pub const A_TRUE: &str = "rule A true, devices of three rows";
+pub const B_TRUE: &str = "rule B true, devices of three rows";
+pub const C_TRUE: &str = "rule C true, one device";
+
+pub fn all() -> Vec<Case> {
+    let mut cases = vec![];
+    for rows in [512, 1_020, 1_024] {
+        cases.push(case(Call::CheckTable { table: devices(rows, 1) }, THREE_ROWS, rows));
+    }
+    for rows in [512, 1_024] {
+        cases.push(case(Call::CheckTable { table: roots(rows, 1) }, "roots of one device", rows));
+        let table = roots(rows, 1_024);
+        cases.push(case(Call::CheckTable { table }, "roots, values multiples of 1,024", rows));
+    }
+    for rows in [64, 256, 1_020, 1_024] {
+        on_devices(&mut cases, rows);
+    }
+    parts(&mut cases, &A, &devices(3, 1), "rule A, a device of three rows");
+    parts(&mut cases, &B, &devices(3, 1), "rule B, a device of three rows");
+    for rows in [64, 256, 1_021, 1_024] {
+        on_one_device(&mut cases, rows);
+    }
+    for rows in [64, 256, 1_024] {
+        on_roots(&mut cases, rows);
+    }
+    cases
+}
+
+fn on_devices(cases: &mut Vec<Case>, rows: u32) {
+    let pool = devices(rows, 1);
+    let mut add = |call: Call, on: &str| cases.push(case(call, on, rows));
+    add(verdict(&A, pool.clone()), A_TRUE);
+    add(verdict(&B, pool.clone()), B_TRUE);
+    add(verdict(&B, devices(rows, 2)), "rule B false at the last two devices");
+    add(marks(&A, pool.clone()), A_TRUE);
+    add(marks(&B, pool.clone()), B_TRUE);
+    add(marks(&B, devices(rows, 2)), "rule B false at the last two devices");
+    add(join_halves(&pool), "devices of three rows, two halves");
+    add(join_last(&pool), "devices of three rows, the last one added");
+    add(Call::ReadPool { file: POOL.text_of(&pool) }, THREE_ROWS);
+    add(Call::WritePool { table: pool.clone() }, THREE_ROWS);
+    add(Call::CheckFiles { rule_file: RULE.text_of(&A), pool_file: POOL.text_of(&pool) }, A_TRUE);
+    add(Call::CheckFiles { rule_file: RULE.text_of(&B), pool_file: POOL.text_of(&pool) }, B_TRUE);
+}
+
+/// The first half of the devices and the second, joined.
+fn join_halves(pool: &[u32]) -> Call {
+    let devices = pool[pool.len() - 5];
+    join_from(pool, devices / 2 + 1)
+}
+
+/// The last device behind all others: what a collector does for each switch.
+fn join_last(pool: &[u32]) -> Call {
+    join_from(pool, pool[pool.len() - 5])
+}
+
+fn join_from(pool: &[u32], device: u32) -> Call {
+    let rows = pool.chunks(5).take_while(|row| row[0] < device).count();
+    let (first, second) = pool.split_at(5 * rows);
+    Call::Join { first: first.to_vec(), second: second.to_vec() }
+}
+
+fn on_one_device(cases: &mut Vec<Case>, rows: u32) {
+    let table = one_device(rows);
+    let mut add = |call: Call, on: &str| cases.push(case(call, on, rows));
+    add(Call::CheckTable { table: table.clone() }, ONE_DEVICE);
+    add(verdict(&C, table.clone()), C_TRUE);
+    add(marks(&C, table.clone()), C_TRUE);
+    for (rule, on) in [(&A[..], "rule A, one device"), (&B, "rule B, one device"), (&C, C_TRUE)] {
+        parts(cases, rule, &table, on);
+    }
+}
+
+/// The deep rule on one device.
+fn on_roots(cases: &mut Vec<Case>, rows: u32) {
+    let (rule, table, on) = (deep(rows), roots(rows, 1), "deep rule, roots");
+    cases.push(case(verdict(&rule, table.clone()), on, rows));
+    cases.push(case(marks(&rule, table.clone()), on, rows));
+    parts(cases, &rule, &table, on);
+}
+
+fn parts(cases: &mut Vec<Case>, rule: &[u32], table: &[u32], on: &str) {
+    for mode in 1..=3 {
+        let call = Call::Part { rule: rule.to_vec(), table: table.to_vec(), mode };
+        cases.push(case(call, on, table.len() as u32 / 5));
+    }
+}

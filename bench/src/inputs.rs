@@ -1,0 +1,113 @@
+//! Rules and pools of the benchmark.
+
+/// Rule A of the contract: each device is client or server.
+pub const A: [u32; 24] = [5, 1, 0, 1, 3, 2, 4, 0, 6, 3, 1, 2, 7, 1, 1, 1, 6, 5, 1, 2, 7, 1, 1, 2];
+
+/// Rule B of the contract: at most one server.
+pub const B: [u32; 36] = [
+    5, 1, 0, 1, 5, 2, 0, 1, 4, 3, 8, 0, 2, 4, 6, 0, 6, 5, 1, 2, 7, 2, 1, 2, 6, 7, 2, 2, 7, 2, 1, 2, 7, 0, 0,
+    1,
+];
+
+/// Two child levels: every interface of every device has an address, all of whose leaves are below a limit.
+pub const C: [u32; 20] = [5, 1, 0, 1, 5, 2, 1, 3, 6, 3, 2, 4, 5, 4, 3, 5, 8, 3, 1, 1_000_000];
+
+const CLIENT: u32 = 1;
+const SERVER: u32 = 2;
+
+/// Devices of three rows as the contract's D1; the first has up to two interfaces more, so that the rows add
+/// up. The last `servers` of them are servers.
+pub fn devices(rows: u32, servers: u32) -> Vec<u32> {
+    let count = rows / 3;
+    let mut pool = vec![];
+    for device in 1..=count {
+        let mode = if device > count - servers { SERVER } else { CLIENT };
+        pool.extend([device, 1, 0, 1, 1_000 + device]);
+        pool.extend([device, 2, 1, 2, mode]);
+        let interfaces = if device == 1 { 1 + rows % 3 } else { 1 };
+        pool.extend((0..interfaces).flat_map(|i| [device, 3 + i, 1, 3, 100 + i]));
+    }
+    pool
+}
+
+/// One device: a root, its mode, interfaces, addresses under them and leaves under those, each interface
+/// followed by what hangs under it. With 1,021 rows: 300 interfaces, 360 addresses, 359 leaves.
+pub fn one_device(rows: u32) -> Vec<u32> {
+    let interfaces = (rows - 2) * 300 / 1_019;
+    let addresses = (rows - 2 - interfaces).div_ceil(2);
+    let leaves = rows - 2 - interfaces - addresses;
+    let mut table = vec![1, 1, 0, 1, 11, 1, 2, 1, 2, SERVER];
+    let (mut at, mut address) = (2, 0);
+    let mut add = |table: &mut Vec<u32>, up: u32, name: u32| {
+        at += 1;
+        table.extend([1, at, up, name, 1_000 + at]);
+        at
+    };
+    for interface in 0..interfaces {
+        let up = add(&mut table, 1, 3);
+        // The addresses are spread evenly over the interfaces.
+        while address < (interface + 1) * addresses / interfaces {
+            let up = add(&mut table, up, 4);
+            if address < leaves {
+                add(&mut table, up, 5);
+            }
+            address += 1;
+        }
+    }
+    table
+}
+
+/// Roots of one device with distinct values: 0, `step`, and so on.
+pub fn roots(rows: u32, step: u32) -> Vec<u32> {
+    (0..rows).flat_map(|row| [1, row + 1, 0, 1, row * step]).collect()
+}
+
+/// Eight quantifiers over roots around one another; each decides at the last row of `roots(rows, 1)`.
+pub fn deep(rows: u32) -> Vec<u32> {
+    let last = rows - 1;
+    let mut rule = vec![];
+    for variable in 0..7 {
+        let entry = 3 * variable;
+        rule.extend([6, entry + 1, 0, 1]);
+        rule.extend([2, entry + 2, entry + 3, 0]);
+        rule.extend([7, variable, 1, last]);
+    }
+    rule.extend([6, 22, 0, 1, 7, 7, 1, last]);
+    rule
+}
+
+#[cfg(test)]
+mod tests {
+    use super::*;
+    use gabzeril_tests::answer::Answer;
+    use gabzeril_tests::checker::{check_rule, check_table, verdict};
+
+    #[test]
+    fn all_are_accepted() {
+        for rows in [64, 256, 512, 1_020, 1_021, 1_024] {
+            for table in [devices(rows, 1), one_device(rows), roots(rows, 1), roots(rows, 1_024)] {
+                assert_eq!(check_table(&table), Answer::Done(rows as usize));
+            }
+            assert_eq!(check_rule(&deep(rows)), Answer::Done(23));
+        }
+        for rule in [&A[..], &B, &C] {
+            assert_eq!(check_rule(rule), Answer::Done(rule.len() / 4));
+        }
+    }
+
+    #[test]
+    fn verdicts_are_as_described() {
+        assert_eq!(verdict(&A, &devices(64, 1)), Answer::Done(1));
+        assert_eq!(verdict(&B, &devices(64, 1)), Answer::Done(1));
+        assert_eq!(verdict(&B, &devices(64, 2)), Answer::Done(0));
+        assert_eq!(verdict(&C, &one_device(64)), Answer::Done(1));
+        assert_eq!(verdict(&deep(64), &roots(64, 1)), Answer::Done(1));
+    }
+
+    #[test]
+    fn the_large_device_has_300_interfaces() {
+        let table = one_device(1_021);
+        let named = |name| table.chunks(5).filter(|row| row[3] == name).count();
+        assert_eq!([3, 4, 5].map(named), [300, 360, 359]);
+    }
+}

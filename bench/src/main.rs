@@ -1,0 +1,38 @@
+//! The benchmark. `bench/run.sh` runs it; each command prints Markdown.
+//!
+//! - `instructions`: makes each call once, for callgrind; prints the labels of the cases in order.
+//! - `asked COUNTS BEFORE`: the figures asked for. Both are files with the instructions of each case.
+//! - `times COUNTS BEFORE`: times the library and the Rust checker.
+//! - `sqlite`: the library and SQLite on rules A and B.
+//! - `stack`: the stack that each call takes on the largest inputs.
+//! - `sent`: the rows sent for the formulas of document 004.
+
+mod asked;
+mod calls;
+mod cases;
+mod clock;
+mod inputs;
+mod instructions;
+mod sent;
+mod sqlite;
+mod stack;
+mod times;
+
+use instructions::Counts;
+
+fn main() {
+    let arguments: Vec<String> = std::env::args().skip(1).collect();
+    let words: Vec<&str> = arguments.iter().map(String::as_str).collect();
+    match words[..] {
+        ["instructions"] => instructions::make_each_call(),
+        ["asked", counts, before] => asked::print(&Counts::read(counts), &Counts::read(before)),
+        ["times", counts, before] => times::print(&Counts::read(counts), &Counts::read(before)),
+        ["sqlite"] => sqlite::print(),
+        ["stack"] => stack::print(),
+        ["sent"] => sent::print(),
+        _ => {
+            eprintln!("usage: gabzeril-bench instructions | asked COUNTS BEFORE | times COUNTS BEFORE | sqlite | stack | sent");
+            std::process::exit(2);
+        }
+    }
+}

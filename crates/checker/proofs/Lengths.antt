@@ -1,0 +1,113 @@
+-- The program's text has at most 64 bytes. Assumes nothing.
+use Prim.Native.Nat.{ℕ, zero, suc, _+_, _*_, _/_, _%_, _^_, _≤_, _<_}
+use mathlib.Core.Path.{_≡_, refl, ap}
+use mathlib.Core.Bool.{Bool, true, false, cond}
+use mathlib.Core.List.{List, [], _∷_, _++_}
+use native.Mathlib.Nat.{pow-succ', mul-add}
+use native.Mathlib.Numerals.{add-one}
+use native.Mathlib.Omega.{arith}
+use lib.ListN.{length, drop, length-append}
+use lib.Dec.{ltb, leb}
+use borrow.Author.Tests.{ltb-false, le-leb}
+use Rattle.base.specs.Search.{sumBelow}
+use Rattle.tables.specs.Answers.{isDone, andThen, unless, value}
+use Rattle.tables.specs.Words.{rowCount, rows, rowAt}
+use Rattle.tables.specs.Rules.{checkRule, acceptedRule}
+use Rattle.tables.specs.Tables.{checkTable, acceptedTable}
+use Rattle.tables.specs.Files.{countNames, refusalNames, digitByte, digitsUpTo, numberText, byteAfter, nextColumn, textFrom, writeText, checkFile, output}
+use Rattle.tables.specs.declared.Answer.{Answer}
+use Rattle.tables.specs.declared.Answer.the-variants.{Done, Refused}
+use Rattle.tables.proofs.Answers.{andThen-first, andThen-next, unless-next}
+use Rattle.tables.proofs.Accepted.{few-rows}
+use Rattle.logic.specs.Formulas.{formula}
+use Rattle.logic.specs.Verdict.{verdict}
+use Rattle.checker.specs.Files.{ruleOf, poolOf, ruleFile, poolFile}
+use Rattle.checker.specs.Report.{fileLimit, sized, reportAnswer, begins, partCount, countAt, partsCount, counts, countsText, refusalText, textOf, reportText, reportLength, reportOut}
+use Rattle.checker.proofs.Sizes.{Small, small-then, small-rule-file, small-pool-file, small-sized}
+use Rattle.checker.proofs.OwnRows.{count-few}
+use Rattle.checker.proofs.Marks.{marked-few, one-few}
+
+digits-few : (m n w : ℕ) → w < 10 ^ suc n → length (digitsUpTo m w) ≤ suc n
+unfolding digitsUpTo
+digits-few zero n w h = omega arith
+digits-few (suc m) n w h = go (λ k. digits-few m k (w / 10)) n h (ltb w 10) refl
+  where
+    go : ((k : ℕ) → w / 10 < 10 ^ suc k → length (digitsUpTo m (w / 10)) ≤ suc k) → (n : ℕ) → w < 10 ^ suc n → (b : Bool) → ltb w 10 ≡ b → length (cond b (digitByte w ∷ []) (digitsUpTo m (w / 10) ++ (digitByte (w % 10) ∷ []))) ≤ suc n
+    go ih n h true e = omega arith
+    go ih zero h false e = absurd (omega (arith, ltb-false w 10 e))
+    go ih (suc n) h false e =
+        let p : 10 ^ suc (suc n) ≡ 10 * 10 ^ suc n = pow-succ' 10 (suc n) in
+        omega (arith, length-append (digitsUpTo m (w / 10)) (digitByte (w % 10) ∷ []), ih n (omega arith))
+
+-- a number of at most n + 1 digits, the byte after it, and the rest
+number-few : (k c w : ℕ) (ws : List ℕ) (n : ℕ) → w < 10 ^ suc n → length (textFrom k c (w ∷ ws)) ≤ suc n + 1 + length (textFrom k (nextColumn k c) ws)
+unfolding textFrom
+number-few k c w ws n h = omega (arith, length-append (numberText w) (byteAfter k c ∷ textFrom k (nextColumn k c) ws), digits-few 10 n w h)
+
+refusal-few : (k p : ℕ) → k ≤ 19 → p ≤ 66560 → length (refusalText k p) ≤ 64
+unfolding writeText textFrom
+refusal-few k p h l =
+    omega (arith, length-append refusalNames (textFrom 2 0 (k ∷ p ∷ [])), number-few 2 0 k (p ∷ []) 1 (omega arith), number-few 2 1 p [] 4 (omega arith))
+
+counts-few : (a b c d e : ℕ) → a ≤ 1 → b ≤ 1024 → c ≤ 1048576 → d ≤ 1048576 → e ≤ 1024 → length (countsText (a ∷ b ∷ c ∷ d ∷ e ∷ [])) ≤ 64
+unfolding writeText textFrom
+counts-few a b c d e ha hb hc hd he =
+    omega (
+      arith,
+      length-append countNames (textFrom 5 0 (a ∷ b ∷ c ∷ d ∷ e ∷ [])),
+      number-few 5 0 a (b ∷ c ∷ d ∷ e ∷ []) 0 (omega arith),
+      number-few 5 1 b (c ∷ d ∷ e ∷ []) 3 (omega arith),
+      number-few 5 2 c (d ∷ e ∷ []) 6 (omega arith),
+      number-few 5 3 d (e ∷ []) 6 (omega arith),
+      number-few 5 4 e [] 3 (omega arith),
+    )
+
+sum-most : (f : ℕ → ℕ) (most n : ℕ) → ((i : ℕ) → f i ≤ most) → sumBelow f n ≤ most * n
+unfolding sumBelow
+sum-most f most zero h = omega arith
+sum-most f most (suc n) h =
+    let d : most * (n + 1) ≡ most * n + most * 1 = mul-add most n 1 in
+    let e : most * (n + 1) ≡ most * suc n = ap (λ (m : ℕ). most * m) (add-one n) in
+    omega (arith, sum-most f most n h, h n)
+
+module _ (rule pool : List ℕ) (rule-ok : acceptedRule rule ≡ true) (ok : acceptedTable pool ≡ true) where
+  pub parts-few : (mode : ℕ) → 1 ≤ mode → mode ≤ 3 → partsCount (formula rule) mode pool ≤ 1048576
+  unfolding partsCount
+  parts-few mode low high = omega (arith, sum-most (countAt (formula rule) mode pool) 1024 (rowCount pool) each, few-rows pool ok)
+    where
+      each : (i : ℕ) → countAt (formula rule) mode pool i ≤ 1024
+      each i = go (begins pool i)
+        where
+          go : (b : Bool) → cond b (partCount (formula rule) mode pool (rowAt pool i .device)) 0 ≤ 1024
+          go true = count-few rule pool rule-ok ok (rowAt pool i .device) mode low high
+          go false = omega arith
+
+  pub text-few : length (countsText (counts rule pool)) ≤ 64
+  unfolding counts
+  text-few = counts-few _ _ _ _ _ (one-few (verdict (formula rule) (rows pool))) (few-rows pool ok) (parts-few 2 (omega arith) (omega arith)) (parts-few 3 (omega arith) (omega arith)) (marked-few rule pool rule-ok ok)
+
+-- the text fits a buffer of 64 bytes
+pub report-few : (rf pf : List ℕ) → length (reportText rf pf) ≤ 64
+unfolding reportText reportAnswer
+report-few rf pf =
+    go (andThen (sized 1 rf (ruleFile rf)) (sized 8 pf (poolFile pf)))
+    (small-then 66560 (sized 1 rf (ruleFile rf)) _ (small-sized 1 rf (ruleFile rf) (omega arith) (small-rule-file rf)) (small-sized 8 pf (poolFile pf) (omega arith) (small-pool-file pf)))
+    (λ e. text-few (ruleOf rf) (poolOf pf)
+    (andThen-next (checkFile _ _ rf) (checkRule (ruleOf rf)) (unless-next (leb (length rf) fileLimit) 1 (ruleFile rf) (andThen-first (sized 1 rf (ruleFile rf)) _ e)))
+    (andThen-next (checkFile _ _ pf) (checkTable (poolOf pf)) (unless-next (leb (length pf) fileLimit) 8 (poolFile pf) (andThen-next (sized 1 rf (ruleFile rf)) _ e))))
+  where
+    go : (a : Answer) → Small 66560 a → (isDone a ≡ true → length (countsText (counts (ruleOf rf) (poolOf pf))) ≤ 64) → length (textOf a (counts (ruleOf rf) (poolOf pf))) ≤ 64
+    go (Done n) s h = h refl
+    go (Refused k p) s h = refusal-few k p (s .number-le) (s .place-le)
+
+-- and is printed whole in one
+pub report-printed : (rf pf : List ℕ) (room : ℕ) → 64 ≤ room → reportLength rf pf room ≡ length (reportText rf pf)
+report-printed rf pf room h = rw (le-leb (length (reportText rf pf)) room (omega (arith, report-few rf pf)))
+
+-- what is printed lies within the buffer
+pub report-within : (rf pf out out′ : List ℕ) (r : ℕ) → r ≡ reportLength rf pf (length out) → out′ ≡ reportOut rf pf out → r ≤ length out′
+report-within rf pf out out′ r e w = rw (e, w) (go (reportText rf pf) (leb (length (reportText rf pf)) (length out)))
+  where
+    go : (text : List ℕ) (b : Bool) → value (unless b 17 (Done (length text))) ≤ length (output (unless b 17 (Done (length text))) text out)
+    go text true = omega (arith, length-append text (drop (length text) out))
+    go text false = omega arith

@@ -1,0 +1,153 @@
+-- The part of an accepted table that one device's rows are handed back as: it is those rows' words, an accepted table, and its part is theirs. Assumes nothing.
+use Prim.Native.Nat.{ℕ, _+_, _-_, _*_, _≤_, _<_}
+use mathlib.Core.Path.{_≡_, sym, ap, ap₂, subst, _∙_}
+use mathlib.Core.Bool.{Bool, true, false, cond}
+use mathlib.Core.List.{List, [], _++_, append-nil}
+use native.Mathlib.Omega.{arith}
+use lib.ListN.{length, take, drop, take-append-drop, length-drop}
+use lib.Seq.{length-take-le}
+use lib.Dec.{eqb, ltb, leb}
+use borrow.Author.Tests.{eq-eqb, ne-eqb, eqb-true, ltb-true, ltb-false, le-leb}
+use Rattle.base.specs.Lists.{_∈_, select}
+use Rattle.base.proofs.Bools.{either}
+use Rattle.base.proofs.Lists.{select-append, select-all, select-none, select-out, length-select}
+use Rattle.base.proofs.Search.{first-le}
+use Rattle.tables.specs.Answers.{value, unless}
+use Rattle.tables.specs.Words.{rowAt, rowCount, rows}
+use Rattle.tables.specs.Rules.{acceptedRule}
+use Rattle.tables.specs.Tables.{acceptedTable}
+use Rattle.tables.specs.Devices.{fromDevice, hasDevice, deviceStart, deviceEnd}
+use Rattle.tables.specs.declared.Row.{Row}
+use Rattle.tables.specs.declared.Answer.{Answer}
+use Rattle.tables.specs.declared.Answer.the-variants.{Done}
+use Rattle.tables.proofs.Answers.{unless-passed}
+use Rattle.tables.proofs.Words.{row-left, row-right}
+use Rattle.tables.proofs.Accepted.{whole-rows, few-rows, in-part, of-device, parent-device}
+use Rattle.tables.proofs.RowLists.{length-rows, row-out, rows-append}
+use Rattle.logic.specs.Formulas.{Formula, formula}
+use Rattle.logic.specs.Parts.{partBy, branchPart, fullPart, partOf, wordsOf, partAnswer}
+use Rattle.logic.proofs.Words.{is-whole, length-words, rows-words, words-rows}
+use Rattle.logic.proofs.Selections.{kept-accepted}
+use Rattle.logic.proofs.Calls.{part-is}
+use Rattle.checker.specs.Report.{deviceRows, begins, partCount, countAt}
+
+-- ---- three runs of whole rows, of which the middle one has the rows of device d
+module _ (A M B : List ℕ) (m n : ℕ) (d : ℕ) (la : length A ≡ 5 * m) (lm : length M ≡ 5 * n)
+    (before : (i : ℕ) → i < m → ¬ (rowAt (A ++ (M ++ B)) i .device ≡ d))
+    (inside : (i : ℕ) → i < n → rowAt (A ++ (M ++ B)) (m + i) .device ≡ d)
+    (past : (i : ℕ) → i < rowCount B → ¬ (rowAt (A ++ (M ++ B)) (m + n + i) .device ≡ d)) where
+  abbrev own : Row → Bool
+  own r = eqb (r .device) d
+
+  abbrev deviceAt : ℕ → ℕ
+  deviceAt i = rowAt (A ++ (M ++ B)) i .device
+
+  none-before : (r : Row) → r ∈ rows A → own r ≡ false
+  none-before r i =
+      let w = row-out A i in
+      let h : w .0 < m = omega (arith, w .1) in
+      ne-eqb (r .device) d (λ e. before (w .0) h (ap (λ (x : Row). x .device) (row-left A (M ++ B) (w .0) (omega arith) ∙ sym (w .2)) ∙ e))
+
+  all-inside : (r : Row) → r ∈ rows M → own r ≡ true
+  all-inside r i =
+      let w = row-out M i in
+      let h : w .0 < n = omega (arith, w .1) in
+      eq-eqb (r .device) d (ap (λ (x : Row). x .device) (w .2 ∙ sym (row-left M B (w .0) (omega arith)) ∙ sym (row-right A (M ++ B) m (w .0) la)) ∙ inside (w .0) h)
+
+  none-past : (r : Row) → r ∈ rows B → own r ≡ false
+  none-past r i =
+      let w = row-out B i in
+      let e : m + n + w .0 ≡ m + (n + w .0) = omega arith in
+      ne-eqb (r .device) d (λ q. past (w .0) (w .1) (ap (λ (x : Row). x .device) (ap (rowAt (A ++ (M ++ B))) e ∙ row-right A (M ++ B) m (n + w .0) la ∙ row-right M B n (w .0) lm ∙ sym (w .2)) ∙ q))
+
+  pub middle : wordsOf (deviceRows (rows (A ++ (M ++ B))) d) ≡ M
+  middle =
+      ap wordsOf (
+      ap (select own) (rows-append A (M ++ B) (omega arith) ∙ ap (_++_ (rows A)) (rows-append M B (omega arith)))
+      ∙ select-append own (rows A) (rows M ++ rows B)
+      ∙ ap₂ _++_ (select-none own (rows A) none-before) (select-append own (rows M) (rows B) ∙ ap₂ _++_ (select-all own (rows M) all-inside) (select-none own (rows B) none-past) ∙ append-nil (rows M))
+      )
+      ∙ words-rows M (is-whole M n lm)
+
+module _ (t : List ℕ) (ok : acceptedTable t ≡ true) (d : ℕ) where
+  abbrev from : ℕ
+  from = fromDevice t d
+
+  abbrev to : ℕ
+  to = fromDevice t (d + 1)
+
+  within : to ≤ rowCount t
+  within = first-le (λ i. leb (d + 1) (rowAt t i .device)) (rowCount t)
+
+  -- the device is there
+  some-words : from < to → take (5 * to - 5 * from) (drop (5 * from) t) ≡ wordsOf (deviceRows (rows t) d)
+  some-words h =
+      let A = take (5 * from) t in
+      let M = take (5 * to - 5 * from) (drop (5 * from) t) in
+      let B = drop (5 * to - 5 * from) (drop (5 * from) t) in
+      let ends : to ≤ rowCount t = within in
+      let size : length t ≡ 5 * rowCount t = whole-rows t ok in
+      let rest : length (drop (5 * from) t) ≡ length t - 5 * from = length-drop (5 * from) t in
+      let la : length A ≡ 5 * from = length-take-le (5 * from) t (omega arith) in
+      let lm : length M ≡ 5 * (to - from) = length-take-le (5 * to - 5 * from) (drop (5 * from) t) (omega arith) ∙ omega arith in
+      let lb : length B ≡ length t - 5 * to = length-drop (5 * to - 5 * from) (drop (5 * from) t) ∙ omega arith in
+      let e : A ++ (M ++ B) ≡ t = ap (_++_ A) (take-append-drop (5 * to - 5 * from) (drop (5 * from) t)) ∙ take-append-drop (5 * from) t in
+      sym (middle A M B from (to - from) d la lm
+      (λ i l q. absurd (omega (arith, of-device t ok d i (omega arith) (ap (λ (l : List ℕ). rowAt l i .device) (sym e) ∙ q) .0)))
+      (λ i l. ap (λ (l : List ℕ). rowAt l (from + i) .device) e ∙ in-part t ok d (from + i) (omega arith) (omega arith) (omega arith))
+      (λ i l q. absurd (omega (arith, of-device t ok d (from + (to - from) + i) (omega arith) (ap (λ (l : List ℕ). rowAt l (from + (to - from) + i) .device) (sym e) ∙ q) .1))))
+      ∙ ap (λ (l : List ℕ). wordsOf (deviceRows (rows l) d)) e
+
+  -- it is not
+  no-words : to ≤ from → [] ≡ wordsOf (deviceRows (rows t) d)
+  no-words h = sym (ap wordsOf (select-none (λ r. eqb (r .device) d) (rows t) (λ r m.
+      let w = row-out t m in
+      ne-eqb (r .device) d (λ e. let q = of-device t ok d (w .0) (w .1) (ap (λ (x : Row). x .device) (sym (w .2)) ∙ e) in absurd (omega (arith, q .0, q .1))))))
+
+  pub own-words : take (deviceEnd t d - deviceStart t d) (drop (deviceStart t d) t) ≡ wordsOf (deviceRows (rows t) d)
+  unfolding deviceStart deviceEnd hasDevice
+  own-words = either (ltb from to)
+      (λ e. rw (ok, e) (some-words (ltb-true from to e)))
+      (λ e. rw (ok, e) (no-words (ltb-false from to e)))
+
+  own-accepted : acceptedTable (wordsOf (deviceRows (rows t) d)) ≡ true
+  own-accepted = kept-accepted t ok (λ r. eqb (r .device) d) (λ r p i j k c. eq-eqb (p .device) d (parent-device r p c ∙ eqb-true (r .device) d k))
+
+  pub own-few : length (deviceRows (rows t) d) ≤ 1024
+  own-few = omega (arith, length-select (λ r. eqb (r .device) d) (rows t), length-rows t, few-rows t ok)
+
+-- ---- a part has at most all rows
+part-few : (F : Formula) (mode : ℕ) (D : List Row) → length (partOf F mode D) ≤ length D
+unfolding partOf branchPart fullPart partBy
+part-few F mode D = go (eqb mode 1) (eqb mode 2)
+  where
+    go : (a b : Bool) → length (cond a D (cond b (branchPart F D) (fullPart F D))) ≤ length D
+    go true b = omega arith
+    go false true = length-select _ D
+    go false false = length-select _ D
+
+-- ---- the call for the part of one device of an accepted pool
+module _ (rule t : List ℕ) (rule-ok : acceptedRule rule ≡ true) (ok : acceptedTable t ≡ true) (d mode : ℕ) (low : 1 ≤ mode) (high : mode ≤ 3) where
+  pub count-few : partCount (formula rule) mode t d ≤ 1024
+  count-few = omega (arith, part-few (formula rule) mode (deviceRows (rows t) d), own-few t ok d)
+
+  pub part-count : (words out : List ℕ) (a : Answer) → words ≡ take (deviceEnd t d - deviceStart t d) (drop (deviceStart t d) t) → 5120 ≤ length out
+      → a ≡ partAnswer rule words mode (length out) → (v : ℕ) → v ≡ value a → (v ≡ partCount (formula rule) mode t d) × (v ≤ 1024)
+  part-count words out a e h q v k =
+      let D = deviceRows (rows t) d in
+      let is : words ≡ wordsOf D = e ∙ own-words t ok d in
+      let room : length (wordsOf (partOf (formula rule) mode D)) ≤ length out = omega (arith, length-words (partOf (formula rule) mode D), count-few) in
+      let w : v ≡ partCount (formula rule) mode t d = k ∙ ap value (
+      q ∙ ap (λ (l : List ℕ). partAnswer rule l mode (length out)) is
+      ∙ part-is rule (wordsOf D) rule-ok (own-accepted t ok d) d (λ r m. eqb-true (r .device) d (select-out (λ x. eqb (x .device) d) (rows t) (subst (λ (l : List Row). r ∈ l) (rows-words D) m) .1)) mode low high out
+      ∙ ap (λ (l : List Row). unless (leb (length (wordsOf (partOf (formula rule) mode l))) (length out)) 17 (Done (length (partOf (formula rule) mode l)))) (rows-words D)
+      ∙ unless-passed (leb (length (wordsOf (partOf (formula rule) mode D))) (length out)) 17 _ (le-leb _ _ room)
+      ) in
+      (w, omega (arith, count-few))
+
+-- ---- a device is counted at its first row
+pub count-begins : (F : Formula) (mode : ℕ) (t : List ℕ) (i : ℕ) → begins t i ≡ true → countAt F mode t i ≡ partCount F mode t (rowAt t i .device)
+count-begins F mode t i e = rw e
+
+pub count-other : (F : Formula) (mode : ℕ) (t : List ℕ) (i : ℕ) → begins t i ≡ false → countAt F mode t i ≡ 0
+count-other F mode t i e = rw e

@@ -1,0 +1,110 @@
+-- The numbers and places of the refusals are small. Assumes nothing.
+use Prim.Native.Nat.{ℕ, _+_, _≤_}
+use mathlib.Core.Path.{_≡_, refl}
+use mathlib.Core.Bool.{Bool, true, false, cond}
+use mathlib.Core.List.{List, [], _∷_}
+use native.Mathlib.Omega.{arith}
+use lib.ListN.{length, length-drop}
+use lib.Dec.{leb}
+use borrow.Author.Tests.{leb-true}
+use Rattle.base.specs.Lists.{all}
+use Rattle.base.specs.Search.{first, some}
+use Rattle.base.proofs.Bools.{and-left, and-right}
+use Rattle.base.proofs.Search.{first-le}
+use Rattle.tables.specs.Answers.{number, place, andThen, unless, inOrder}
+use Rattle.tables.specs.Words.{whole, entryWords, rowWords, entryCount, rowCount, rows}
+use Rattle.tables.specs.Rules.{one, ruleLength, entryFault, checkRule}
+use Rattle.tables.specs.Tables.{tableLength, rowFault, checkTable}
+use Rattle.tables.specs.Files.{ruleNames, poolNames, stepOf, scanAll, atStart, startsWith, atLine, atEnd, lines, readWords, checkFile}
+use Rattle.tables.specs.declared.Answer.{Answer}
+use Rattle.tables.specs.declared.Answer.the-variants.{Done, Refused}
+use Rattle.tables.specs.declared.reading.Scan.{Scan}
+use Rattle.tables.proofs.Steps.{step-counted}
+use Rattle.logic.specs.Formulas.{formula}
+use Rattle.logic.specs.Verdict.{verdict}
+use Rattle.checker.specs.Files.{ruleOf, poolOf, tableFile, ruleFile, poolFile, filesAnswer, returned}
+use Rattle.checker.specs.Report.{fileLimit, sized}
+
+pub record Small (p : ℕ) (a : Answer) : Type 0 where
+  pub number-le : number a ≤ 19
+  pub place-le : place a ≤ p
+
+small-wider : (p q : ℕ) (a : Answer) → p ≤ q → Small p a → Small q a
+small-wider p q a h s = record { number-le = s .number-le; place-le = omega (arith, s .place-le) }
+
+pub small-then : (p : ℕ) (a b : Answer) → Small p a → Small p b → Small p (andThen a b)
+small-then p (Done n) b s t = t
+small-then p (Refused k q) b s t = s
+
+small-unless : (p : ℕ) (ok : Bool) (k : ℕ) (next : Answer) → k ≤ 19 → (ok ≡ true → Small p next) → Small p (unless ok k next)
+small-unless p true k next h s = s refl
+small-unless p false k next h s = record { number-le = h; place-le = omega arith }
+
+-- checks in order at n places
+small-order : (fault : ℕ → ℕ → Bool) (n : ℕ) (ks : List ℕ) → all (λ k. leb k 19) ks ≡ true → Small n (inOrder fault n ks)
+small-order fault n [] e = record { number-le = omega arith; place-le = omega arith }
+small-order fault n (k ∷ ks) e = go (some (fault k) n) (small-order fault n ks (and-right (leb k 19) (all (λ k. leb k 19) ks) e))
+  where
+    go : (b : Bool) → Small n (inOrder fault n ks) → Small n (cond b (Refused k (first (fault k) n)) (inOrder fault n ks))
+    go true s = record { number-le = leb-true k 19 (and-left (leb k 19) (all (λ k. leb k 19) ks) e); place-le = first-le (fault k) n }
+    go false s = s
+
+small-rule : (r : List ℕ) → Small 1024 (checkRule r)
+unfolding checkRule
+small-rule r = small-unless 1024 (ruleLength r) 1 _ (omega arith)
+    (λ e. small-wider (entryCount r) 1024 _
+    (omega (arith, leb-true (entryCount r) 128 (and-right (leb 1 (entryCount r)) _ (and-right (whole entryWords r) _ e))))
+    (small-order (entryFault r) (entryCount r) (2 ∷ 3 ∷ 4 ∷ 5 ∷ 6 ∷ 7 ∷ []) refl))
+
+small-table : (t : List ℕ) → Small 1024 (checkTable t)
+unfolding checkTable
+small-table t = small-unless 1024 (tableLength t) 8 _ (omega arith)
+    (λ e. small-wider (rowCount t) 1024 _ (leb-true (rowCount t) 1024 (and-right (whole rowWords t) _ e))
+    (small-order (rowFault t) (rowCount t) (9 ∷ 10 ∷ 11 ∷ 12 ∷ []) refl))
+
+-- a line more takes a byte
+line-le : (k : ℕ) (s : Scan) (bs : List ℕ) → scanAll k s bs .line ≤ s .line + length bs
+unfolding scanAll
+line-le k s [] = omega arith
+line-le k s (b ∷ bs) = omega (arith, line-le k (stepOf k s b) bs, step-counted k s b .line-le)
+
+small-lines : (names : List ℕ) (k : ℕ) (file : List ℕ) → Small (length file + 1024) (checkFile names k file)
+unfolding checkFile
+small-lines names k file = go (startsWith names file) (atLine (atEnd names k file))
+  where
+    go : (a b : Bool) → Small (length file + 1024) (cond a (cond b (Done (length (readWords names k file))) (Refused 19 (atEnd names k file .line))) (Refused 18 1))
+    go true true = record { number-le = omega arith; place-le = omega arith }
+    go true false = record {
+      number-le = omega arith;
+      place-le = omega (arith, line-le k atStart (lines names file), length-drop (length names) file);
+    }
+    go false b = record { number-le = omega arith; place-le = omega arith }
+
+small-file : (names : List ℕ) (k : ℕ) (check : List ℕ → Answer) (file : List ℕ) → ((ws : List ℕ) → Small 1024 (check ws)) → Small (length file + 1024) (tableFile names k check file)
+small-file names k check file h = small-then _ (checkFile names k file) _ (small-lines names k file)
+    (small-wider 1024 (length file + 1024) _ (omega arith) (h (readWords names k file)))
+
+pub small-rule-file : (file : List ℕ) → Small (length file + 1024) (ruleFile file)
+small-rule-file file = small-file ruleNames entryWords checkRule file small-rule
+
+pub small-pool-file : (file : List ℕ) → Small (length file + 1024) (poolFile file)
+small-pool-file file = small-file poolNames rowWords checkTable file small-table
+
+-- ---- the program's refusals: a place has at most five digits
+pub small-sized : (k : ℕ) (file : List ℕ) (next : Answer) → k ≤ 19 → Small (length file + 1024) next → Small 66560 (sized k file next)
+small-sized k file next h s = small-unless 66560 (leb (length file) fileLimit) k next h
+    (λ e. small-wider (length file + 1024) 66560 next (omega (arith, leb-true (length file) fileLimit e)) s)
+
+-- ---- what the C entry returns
+returned-then : (p : ℕ) (a b : Answer) → Small p a → returned b ≤ 119 → returned (andThen a b) ≤ 119
+returned-then p (Done n) b s h = h
+returned-then p (Refused k q) b s h = omega (arith, s .number-le)
+
+pub returned-le : (rf pf : List ℕ) → returned (filesAnswer rf pf) ≤ 119
+unfolding filesAnswer
+returned-le rf pf =
+    returned-then _ (ruleFile rf) _ (small-rule-file rf) (returned-then _ (poolFile pf) _ (small-pool-file pf) (at-most-one (verdict (formula (ruleOf rf)) (rows (poolOf pf)))))
+  where
+    at-most-one : (b : Bool) → one b ≤ 119
+    at-most-one true = omega arith
+    at-most-one false = omega arith

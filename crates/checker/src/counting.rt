@@ -1,0 +1,131 @@
+// The counts that the program prints.
+use engine::marks;
+use parts::part;
+use tables::Answer;
+use tables::device_rows;
+ghost use mathlib.Core.Path.{_≡_};
+ghost use mathlib.Core.Bool.{true};
+ghost use Prim.Native.Nat.{_+_, _*_, _≤_, _<_};
+ghost use lib.ListN.{length};
+ghost use lib.Dec.{eqb};
+ghost use Rattle.base.specs.Lists.{select};
+ghost use Rattle.tables.specs.Answers.{value};
+ghost use Rattle.tables.specs.Words.{rows, rowCount};
+ghost use Rattle.tables.specs.Rules.{one, acceptedRule};
+ghost use Rattle.tables.specs.Tables.{acceptedTable};
+ghost use Rattle.logic.specs.Formulas.{formula};
+ghost use Rattle.logic.specs.Verdict.{verdict};
+ghost use Rattle.checker.specs.Report.{begins, partCount, countAt, partsCount, markedCount, counts};
+
+// The value of an accepted answer, 0 of a refused one.
+pub(crate) fn value_of(answer: Answer) -> usize
+    ensures { λ r. ⌜ r ≡ value answer ⌝ }
+{
+    match answer {
+        Answer::Done(n) => n,
+        Answer::Refused {
+            number: _,
+            place: _,
+        } => 0,
+    }
+}
+
+// Whether row i is the first of its device.
+fn begins_device(pool: &[u32], i: usize) -> bool
+    requires { ⌜ 5 * i + 5 ≤ length (now pool) ⌝ }
+    ensures { λ r. ⌜ r ≡ begins (now (pool .entry)) i ⌝ }
+{
+    if i == 0 {
+        return true;
+    }
+    let before = i - 1;
+    !(pool[5 * i + 0] == pool[5 * before + 0])
+}
+
+// The rows of one device's part.
+fn part_count(rule: &[u32], pool: &[u32], device: u32, mode: u32) -> usize
+    requires { ⌜ (acceptedRule (now rule) ≡ true) × (acceptedTable (now pool) ≡ true) × (1 ≤ mode) × (mode ≤ 3) ⌝ }
+    ensures { λ r. ⌜ (r ≡ partCount (formula (now (rule .entry))) mode (now (pool .entry)) device) × (r ≤ 1024) ⌝ }
+{
+    let mut sent = [0u32; 5120];
+    value_of(part(rule, device_rows(pool, device), mode, &mut sent))
+}
+
+// The same at the first row of each device, 0 at the others.
+fn count_at(rule: &[u32], pool: &[u32], i: usize, mode: u32) -> usize
+    requires { ⌜ (acceptedRule (now rule) ≡ true) × (acceptedTable (now pool) ≡ true) × (1 ≤ mode) × (mode ≤ 3) × (5 * i + 5 ≤ length (now pool)) ⌝ }
+    ensures { λ r. ⌜ (r ≡ countAt (formula (now (rule .entry))) mode (now (pool .entry)) i) × (r ≤ 1024) ⌝ }
+{
+    if begins_device(pool, i) {
+        return part_count(rule, pool, pool[5 * i + 0], mode);
+    }
+    0
+}
+
+// The rows of the parts of all devices.
+fn parts_count(rule: &[u32], pool: &[u32], mode: u32) -> usize
+    requires { ⌜ (acceptedRule (now rule) ≡ true) × (acceptedTable (now pool) ≡ true) × (1 ≤ mode) × (mode ≤ 3) ⌝ }
+    ensures { λ r. ⌜ (r ≡ partsCount (formula (now (rule .entry))) mode (now (pool .entry))) × (r ≤ 1048576) ⌝ }
+{
+    let n = pool.len() / 5;
+    let mut sum = 0;
+    let mut i = 0;
+    while i < n {
+        sum += count_at(rule, pool, i, mode);
+        i += 1;
+    }
+    sum
+}
+
+// How many bytes are 1.
+fn ones(bytes: &[u8]) -> usize
+    ensures { λ r. ⌜ r ≡ length (select (λ b. eqb b 1) (now (bytes .entry))) ⌝ }
+{
+    let mut n = 0;
+    let mut i = 0;
+    while i < bytes.len() {
+        if bytes[i] == 1 {
+            n += 1;
+        }
+        i += 1;
+    }
+    n
+}
+
+// The verdict and the number of marked rows.
+struct Reasons {
+    verdict: usize,
+    rows: usize,
+}
+
+fn marked_rows(rule: &[u32], pool: &[u32]) -> Reasons
+    requires { ⌜ (acceptedRule (now rule) ≡ true) × (acceptedTable (now pool) ≡ true) ⌝ }
+    ensures verdict { λ r. ⌜ (r .verdict ≡ one (verdict (formula (now (rule .entry))) (rows (now (pool .entry))))) × (r .verdict ≤ 1) ⌝ }
+    ensures rows { λ r. ⌜ (r .rows ≡ markedCount (formula (now (rule .entry))) (rows (now (pool .entry)))) × (r .rows ≤ 1024) ⌝ }
+{
+    let mut bytes = [0u8; 1024];
+    let answer = marks(rule, pool, &mut bytes);
+    let n = pool.len() / 5;
+    Reasons {
+        verdict: value_of(answer),
+        rows: ones(&bytes[..n]),
+    }
+}
+
+// Verdict, pool rows, rows of all branch parts, of all full parts, marked rows.
+pub(crate) fn count_words(rule: &[u32], pool: &[u32]) -> [u32; 5]
+    requires { ⌜ (acceptedRule (now rule) ≡ true) × (acceptedTable (now pool) ≡ true) ⌝ }
+    ensures { λ r. ⌜ r ≡ counts (now (rule .entry)) (now (pool .entry)) ⌝ }
+{
+    let m = marked_rows(rule, pool);
+    let branch = parts_count(rule, pool, 2);
+    let full = parts_count(rule, pool, 3);
+    let n = pool.len() / 5;
+    [
+        m.verdict as u32,
+        n as u32,
+        branch as u32,
+        full as u32,
+        m.rows as u32,
+    ]
+}

@@ -1,0 +1,51 @@
+/* A collector: joins the parts of the switches and checks the rule on the joined table.
+ *
+ *     collector RULE PART...
+ *
+ * RULE and each PART are files; the parts stand in the order of their devices. It prints the number of rows
+ * joined, the verdict, and each marked row as device/at.
+ */
+#include "files.h"
+
+#include <stdio.h>
+
+static uint32_t rule[RULE_WORDS];
+static uint32_t pool[TABLE_WORDS];
+static uint32_t part[TABLE_WORDS];
+static uint8_t marks[TABLE_ROWS];
+
+/* The words of the pool with this part behind its first `used`. */
+static size_t add_part(size_t used, const char *path)
+{
+    size_t length = load_pool(path, part);
+    return accepted(gabzeril_join(pool, TABLE_WORDS, used, part, length), path);
+}
+
+static void print_marked(size_t rows)
+{
+    for (size_t row = 0; row < rows; row++) {
+        if (marks[row] == 1) {
+            const uint32_t *words = pool + 5 * row;
+            printf("marked %u/%u\n", (unsigned)words[0], (unsigned)words[1]);
+        }
+    }
+}
+
+int main(int argc, char **argv)
+{
+    if (argc < 2) {
+        fprintf(stderr, "usage: %s RULE PART...\n", argv[0]);
+        return 2;
+    }
+    size_t rule_length = load_rule(argv[1], rule);
+    size_t used = 0;
+    for (int i = 2; i < argc; i++) {
+        used = add_part(used, argv[i]);
+    }
+    gabzeril_answer answer = gabzeril_marks(rule, rule_length, pool, used, marks, sizeof marks);
+    size_t verdict = accepted(answer, "rule or pool");
+    printf("rows %zu\n", used / 5);
+    printf("verdict %s\n", verdict == 1 ? "true" : "false");
+    print_marked(used / 5);
+    return 0;
+}

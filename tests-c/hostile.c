@@ -1,0 +1,572 @@
+/* Damaged rule and pool files through gabzeril_check_files and gabzeril_report.
+ *
+ *     hostile [CASES [SEED [FIRST]]]
+ *
+ * Case number n from FIRST on depends on SEED and n alone, so that one case can be run again.
+ *
+ * A sanitizer sees only code that was compiled with it, and the library's archive is not. So every buffer
+ * lies against a page without access, at its end or at its start, and inputs are on pages that are read-only
+ * during the call: an access outside a buffer, or a write to an input, ends the program. That this happens is
+ * tried first, in child processes. The sanitizers watch this harness itself.
+ *
+ * Each answer is compared with the calls that it stands for: reading, checking, verdict.
+ */
+#define _DEFAULT_SOURCE
+
+#include "gabzeril.h"
+
+#include <fcntl.h>
+#include <stdio.h>
+#include <stdlib.h>
+#include <string.h>
+#include <sys/mman.h>
+#include <sys/wait.h>
+#include <unistd.h>
+
+#ifdef __SANITIZE_ADDRESS__
+#include <sanitizer/common_interface_defs.h>
+#endif
+
+enum {
+    RULE_WORDS = 128 * 4,
+    POOL_WORDS = 1024 * 5,
+    PROGRAM_BYTES = 65536, /* the program's limit of a file */
+    FILE_BYTES = 100000,   /* the longest file made here */
+    TEXT_BYTES = 64,       /* the longest text of gabzeril_report */
+    FILLED = 0xa5
+};
+
+static const char rule_line[] = "kind a b c\n";
+static const char pool_line[] = "device at up name value\n";
+
+/* Random numbers: splitmix64. */
+
+static uint64_t random_state;
+static unsigned long case_number;
+
+static uint64_t draw(void)
+{
+    uint64_t mixed = random_state += 0x9e3779b97f4a7c15u;
+    mixed = (mixed ^ (mixed >> 30)) * 0xbf58476d1ce4e5b9u;
+    mixed = (mixed ^ (mixed >> 27)) * 0x94d049bb133111ebu;
+    return mixed ^ (mixed >> 31);
+}
+
+static uint32_t below(size_t limit)
+{
+    return (uint32_t)(draw() % limit);
+}
+
+static int chance(uint32_t percent)
+{
+    return below(100) < percent;
+}
+
+/* Memory between two pages without access. */
+
+struct area {
+    uint8_t *start;
+    size_t size;
+};
+
+static struct area rule_area, pool_area, text_area, rule_words_area, pool_words_area;
+
+static void stop(const char *what)
+{
+    perror(what);
+    exit(2);
+}
+
+static void set_access(struct area area, int access)
+{
+    if (mprotect(area.start, area.size, access) != 0) {
+        stop("mprotect");
+    }
+}
+
+static struct area new_area(size_t bytes)
+{
+    size_t page = (size_t)sysconf(_SC_PAGESIZE);
+    size_t size = (bytes + page - 1) / page * page;
+    uint8_t *pages = mmap(NULL, size + 2 * page, PROT_NONE, MAP_PRIVATE | MAP_ANONYMOUS, -1, 0);
+    if (pages == MAP_FAILED) {
+        stop("mmap");
+    }
+    struct area area = {pages + page, size};
+    set_access(area, PROT_READ | PROT_WRITE);
+    return area;
+}
+
+/* So many bytes of the area, at its end or at its start. An empty run is at times NULL. */
+static void *run_of(struct area area, size_t length)
+{
+    if (length == 0 && chance(50)) {
+        return NULL;
+    }
+    return chance(70) ? area.start + area.size - length : area.start;
+}
+
+/* A read-only copy in the area. */
+static const void *lend(struct area area, const void *bytes, size_t length)
+{
+    set_access(area, PROT_READ | PROT_WRITE);
+    void *run = run_of(area, length);
+    if (length > 0) {
+        memcpy(run, bytes, length);
+    }
+    set_access(area, PROT_READ);
+    return run;
+}
+
+/* Files. */
+
+struct file {
+    size_t length;
+    uint8_t bytes[FILE_BYTES];
+};
+
+static struct file rule_file, pool_file;
+
+static void add_bytes(struct file *file, const void *bytes, size_t length)
+{
+    if (length <= FILE_BYTES - file->length) {
+        memcpy(file->bytes + file->length, bytes, length);
+        file->length += length;
+    }
+}
+
+static void add_words(struct file *file, const uint32_t *words, size_t count)
+{
+    for (size_t i = 0; i < count; i++) {
+        char text[16];
+        int length = snprintf(text, sizeof text, "%u%c", (unsigned)words[i], i + 1 < count ? ' ' : '\n');
+        add_bytes(file, text, (size_t)length);
+    }
+}
+
+static void start_file(struct file *file, const char *first_line)
+{
+    file->length = 0;
+    add_bytes(file, first_line, strlen(first_line));
+}
+
+/* Rules. At most four quantifiers, so that no case takes long. */
+
+struct rule {
+    uint32_t entries, quantifiers;
+    uint32_t words[RULE_WORDS];
+};
+
+static void set_entry(struct rule *rule, uint32_t at, uint32_t kind, uint32_t a, uint32_t b, uint32_t c)
+{
+    uint32_t words[4] = {kind, a, b, c};
+    memcpy(rule->words + 4 * at, words, sizeof words);
+}
+
+static void set_comparison(struct rule *rule, uint32_t at, uint32_t bound)
+{
+    uint32_t constant = below(2);
+    uint32_t variables = bound == 0 || chance(2) ? bound + 1 : bound;
+    set_entry(rule, at, 7 + below(3), below(variables), constant, below(constant ? 5 : variables));
+}
+
+/* Adds a formula that stands under `bound` quantifiers. Connectives nest at most `depth` deep. */
+static void add_formula(struct rule *rule, uint32_t depth, uint32_t bound)
+{
+    uint32_t at = rule->entries++;
+    uint32_t choice = depth == 0 ? 9 : below(10), deeper = depth == 0 ? 0 : depth - 1;
+    if ((choice < 4 || bound == 0) && rule->quantifiers < 4) {
+        rule->quantifiers++;
+        set_entry(rule, at, 5 + below(2), at + 1, below(bound + 1), 1 + below(3));
+        add_formula(rule, deeper, bound + 1);
+    } else if (choice == 4) {
+        set_entry(rule, at, 1, at + 1, 0, 0);
+        add_formula(rule, deeper, bound);
+    } else if (choice < 8 && depth > 0) {
+        uint32_t kind = 2 + below(3);
+        add_formula(rule, deeper, bound);
+        set_entry(rule, at, kind, at + 1, rule->entries, 0);
+        add_formula(rule, deeper, bound);
+    } else {
+        set_comparison(rule, at, bound);
+    }
+}
+
+/* A quantifier over roots around a comparison: for tables with many rows. */
+static void quick_rule(struct rule *rule)
+{
+    set_entry(rule, 0, 5 + below(2), 1, 0, 1 + below(3));
+    set_entry(rule, 1, 7 + below(3), 0, 1, below(5));
+    rule->entries = 2;
+}
+
+/* Quantifiers around one another, eight or nine of them. */
+static void deep_rule(struct rule *rule)
+{
+    uint32_t depth = 8 + below(2);
+    for (uint32_t i = 0; i < depth; i++) {
+        set_entry(rule, i, 5 + below(2), i + 1, chance(50) ? 0 : i, 1 + below(3));
+    }
+    set_entry(rule, depth, 7, below(depth), 1, below(5));
+    rule->entries = depth + 1;
+}
+
+/* Up to `most_rows` rows of rising devices and places; few names and values, so that all checks are met. */
+static void add_rows(struct file *file, uint32_t most_rows)
+{
+    uint32_t device = 1, at = 0, spread = chance(50) ? 5 : 2000;
+    for (uint32_t row = 0; row < most_rows; row++) {
+        if (chance(25)) {
+            device += 1 + below(2);
+            at = 0;
+        }
+        at++;
+        uint32_t up = chance(30) ? 0 : below(at);
+        uint32_t words[5] = {device, at, up, 1 + below(3), below(spread)};
+        add_words(file, words, 5);
+    }
+}
+
+/* Distinct roots or children of one root, about as many as a table may have. */
+static void add_many_rows(struct file *file)
+{
+    uint32_t rows = 1020 + below(8), flat = below(2);
+    for (uint32_t row = 0; row < rows; row++) {
+        uint32_t words[5] = {1, row + 1, flat || row == 0 ? 0 : 1, 1 + below(3), row};
+        add_words(file, words, 5);
+    }
+}
+
+/* Damage. */
+
+static const char *const pieces[] = {" ", "  ", "\n", "\n\n", "\r\n", "\t", "\0", "0", "9", "-1", "+1",
+                                     "4294967295", "4294967296", "18446744073709551616", "2147483648",
+                                     "65536", "00", "1 1 1 1\n", "1 1 0 1 1\n", rule_line, pool_line};
+
+static void remove_bytes(struct file *file, size_t at, size_t length)
+{
+    memmove(file->bytes + at, file->bytes + at + length, file->length - at - length);
+    file->length -= length;
+}
+
+static void insert_bytes(struct file *file, size_t at, const void *bytes, size_t length)
+{
+    if (length <= FILE_BYTES - file->length) {
+        memmove(file->bytes + at + length, file->bytes + at, file->length - at);
+        memcpy(file->bytes + at, bytes, length);
+        file->length += length;
+    }
+}
+
+/* The line around a byte, with its end. */
+static void line_around(const struct file *file, size_t inside, size_t *start, size_t *length)
+{
+    size_t end = inside;
+    *start = inside;
+    while (*start > 0 && file->bytes[*start - 1] != '\n') {
+        --*start;
+    }
+    while (end < file->length && file->bytes[end++] != '\n') {
+    }
+    *length = end - *start;
+}
+
+static void repeat_line(struct file *file, size_t inside)
+{
+    uint8_t line[256];
+    size_t start, length;
+    line_around(file, inside, &start, &length);
+    if (length <= sizeof line) {
+        memcpy(line, file->bytes + start, length);
+        insert_bytes(file, below(file->length + 1), line, length);
+    }
+}
+
+static void insert_piece(struct file *file, size_t at)
+{
+    const char *piece = pieces[below(sizeof pieces / sizeof pieces[0])];
+    insert_bytes(file, at, piece, strlen(piece) + (piece[0] == '\0'));
+}
+
+static void random_bytes(struct file *file)
+{
+    file->length = below(300);
+    for (size_t i = 0; i < file->length; i++) {
+        file->bytes[i] = chance(60) ? (uint8_t)" \n0123456789"[below(12)] : (uint8_t)draw();
+    }
+}
+
+static void damage_once(struct file *file)
+{
+    size_t at = below(file->length + 1), start, length;
+    int inside = at < file->length;
+    switch (below(12)) {
+    case 0:
+        random_bytes(file);
+        break;
+    case 1:
+        file->length = at;
+        break;
+    case 2:
+        file->length -= file->length > 0;
+        break;
+    case 3:
+    case 4:
+        insert_piece(file, at);
+        break;
+    case 5:
+        repeat_line(file, at);
+        break;
+    case 6:
+        line_around(file, at, &start, &length);
+        remove_bytes(file, start, length);
+        break;
+    case 7:
+        if (inside) {
+            remove_bytes(file, at, 1);
+        }
+        break;
+    case 8:
+        if (inside) {
+            file->bytes[at] = (uint8_t)draw();
+        }
+        break;
+    default:
+        if (inside && file->bytes[at] >= '0' && file->bytes[at] <= '9') {
+            file->bytes[at] = (uint8_t)('0' + below(10));
+        }
+    }
+}
+
+static void damage(struct file *file)
+{
+    do {
+        damage_once(file);
+    } while (chance(25));
+}
+
+/* Whole lines until the file is about as long as the program takes. */
+static void lengthen(struct file *file, const char *line)
+{
+    size_t length = PROGRAM_BYTES - 1 + below(3);
+    while (file->length < length) {
+        add_bytes(file, line, strlen(line));
+    }
+    if (chance(80)) {
+        file->length = length;
+    }
+}
+
+/* One case: both files, nearly always with one of them damaged or both. */
+
+static void make_files(void)
+{
+    static struct rule rule;
+    uint32_t which = below(100);
+    rule.entries = rule.quantifiers = 0;
+    start_file(&rule_file, rule_line);
+    start_file(&pool_file, pool_line);
+    if (which < 2) {
+        quick_rule(&rule);
+        add_many_rows(&pool_file);
+    } else if (which < 5) {
+        deep_rule(&rule);
+        add_rows(&pool_file, below(4));
+    } else {
+        add_formula(&rule, 1 + below(5), 0);
+        add_rows(&pool_file, below(11));
+    }
+    for (uint32_t at = 0; at < rule.entries; at++) {
+        add_words(&rule_file, rule.words + 4 * at, 4);
+    }
+    if (chance(1)) {
+        lengthen(chance(50) ? &rule_file : &pool_file, chance(50) ? "1 2 0 0\n" : "1 1 0 1 1\n");
+    }
+}
+
+static void damage_files(void)
+{
+    uint32_t which = below(10);
+    if (which < 4 || which == 8) {
+        damage(&rule_file);
+    }
+    if (which >= 4 && which < 9) {
+        damage(&pool_file);
+    }
+}
+
+/* What the answer must be. */
+
+/* Checks a file's words; gives 100 plus the refusal, or 0. Too many lines are refusal `length_number`. */
+static uint32_t refusal(gabzeril_answer read, gabzeril_answer check, uint32_t length_number)
+{
+    uint32_t number = read.number == 17 ? length_number : read.number != 0 ? read.number : check.number;
+    return number == 0 ? 0 : 100 + number;
+}
+
+/* The answer by the separate calls; a file over `most_bytes` is refusal 1 or 8 before all others. */
+static uint32_t separate_calls(const void *rule_bytes, const void *pool_bytes, size_t most_bytes)
+{
+    uint32_t *rule = run_of(rule_words_area, RULE_WORDS * sizeof *rule);
+    uint32_t *pool = run_of(pool_words_area, POOL_WORDS * sizeof *pool);
+    if (rule_file.length > most_bytes) {
+        return 101;
+    }
+    gabzeril_answer read = gabzeril_read_rule(rule_bytes, rule_file.length, rule, RULE_WORDS);
+    size_t rule_length = read.value;
+    uint32_t refused = refusal(read, gabzeril_check_rule(rule, rule_length), 1);
+    if (refused != 0 || pool_file.length > most_bytes) {
+        return refused != 0 ? refused : 108;
+    }
+    read = gabzeril_read_pool(pool_bytes, pool_file.length, pool, POOL_WORDS);
+    refused = refusal(read, gabzeril_check_table(pool, read.value), 8);
+    if (refused != 0) {
+        return refused;
+    }
+    gabzeril_answer verdict = gabzeril_verdict(rule, rule_length, pool, read.value);
+    return verdict.number == 0 ? (uint32_t)verdict.value : 100 + verdict.number;
+}
+
+static int all_filled(const uint8_t *bytes, size_t length)
+{
+    for (size_t i = 0; i < length; i++) {
+        if (bytes[i] != FILLED) {
+            return 0;
+        }
+    }
+    return 1;
+}
+
+/* Whether the report begins as the answer says, and leaves the bytes past it. */
+static int report_agrees(const void *rule_bytes, const void *pool_bytes)
+{
+    char begin[80];
+    uint32_t answer = separate_calls(rule_bytes, pool_bytes, PROGRAM_BYTES);
+    const char *names = answer < 2 ? "verdict rows branch full marks" : "refused place";
+    int begin_length = snprintf(begin, sizeof begin, "%s\n%u ", names, (unsigned)answer % 100);
+    size_t room = below(2 * TEXT_BYTES);
+    uint8_t *text = run_of(text_area, room);
+    if (room > 0) {
+        memset(text, FILLED, room);
+    }
+    size_t length = gabzeril_report(rule_bytes, rule_file.length, pool_bytes, pool_file.length, text, room);
+    if (length == 0) {
+        return room < TEXT_BYTES && all_filled(text, room);
+    }
+    return length <= room && length <= TEXT_BYTES && length > (size_t)begin_length &&
+           memcmp(text, begin, (size_t)begin_length) == 0 && text[length - 1] == '\n' &&
+           all_filled(text + length, room - length);
+}
+
+static int is_answer(uint32_t answer)
+{
+    return answer <= 1 || (answer >= 101 && answer <= 112) || answer == 118 || answer == 119;
+}
+
+static unsigned long seen[120];
+
+/* Runs one case; 1 if all is as it should be. */
+static int run_case(uint64_t seed, unsigned long number)
+{
+    case_number = number;
+    random_state = (seed << 32) + number;
+    make_files();
+    damage_files();
+    const void *rule_bytes = lend(rule_area, rule_file.bytes, rule_file.length);
+    const void *pool_bytes = lend(pool_area, pool_file.bytes, pool_file.length);
+    uint32_t answer = gabzeril_check_files(rule_bytes, rule_file.length, pool_bytes, pool_file.length);
+    if (!is_answer(answer) || answer != separate_calls(rule_bytes, pool_bytes, SIZE_MAX)) {
+        printf("case %lu: answer %u\n", number, (unsigned)answer);
+        return 0;
+    }
+    seen[answer]++;
+    if (!report_agrees(rule_bytes, pool_bytes)) {
+        printf("case %lu: report\n", number);
+        return 0;
+    }
+    return 1;
+}
+
+/* The harness itself. */
+
+static void read_past_the_end(void)
+{
+    uint8_t *rule = rule_area.start + rule_area.size - (sizeof rule_line - 1);
+    memcpy(rule, rule_line, sizeof rule_line - 1);
+    gabzeril_check_files(rule, sizeof rule_line, NULL, 0);
+}
+
+static void write_to_an_input(void)
+{
+    set_access(text_area, PROT_READ);
+    gabzeril_report(NULL, 0, NULL, 0, text_area.start, TEXT_BYTES);
+}
+
+/* Whether a child process that does this is ended. */
+static int is_noticed(void (*fault)(void))
+{
+    int status = 0;
+    fflush(stdout);
+    pid_t child = fork();
+    if (child == 0) {
+        dup2(open("/dev/null", O_WRONLY), STDERR_FILENO);
+        fault();
+        _exit(0);
+    }
+    if (child < 0 || waitpid(child, &status, 0) != child) {
+        stop("child");
+    }
+    return status != 0;
+}
+
+#ifdef __SANITIZE_ADDRESS__
+static void print_case(void)
+{
+    fprintf(stderr, "case %lu ended the program\n", case_number);
+}
+#endif
+
+static void make_areas(void)
+{
+    rule_area = new_area(FILE_BYTES);
+    pool_area = new_area(FILE_BYTES);
+    text_area = new_area(2 * TEXT_BYTES);
+    rule_words_area = new_area(RULE_WORDS * sizeof(uint32_t));
+    pool_words_area = new_area(POOL_WORDS * sizeof(uint32_t));
+}
+
+static void print_seen(void)
+{
+    printf("answers:");
+    for (size_t answer = 0; answer < sizeof seen / sizeof seen[0]; answer++) {
+        if (seen[answer] > 0) {
+            printf(" %zu:%lu", answer, seen[answer]);
+        }
+    }
+    printf("\n");
+}
+
+int main(int argc, char **argv)
+{
+    unsigned long cases = argc > 1 ? strtoul(argv[1], NULL, 10) : 100000;
+    uint64_t seed = argc > 2 ? strtoull(argv[2], NULL, 10) : 1;
+    unsigned long first = argc > 3 ? strtoul(argv[3], NULL, 10) : 0;
+    unsigned long passed = 0, failed = 0;
+    make_areas();
+    failed += !is_noticed(read_past_the_end);
+    failed += !is_noticed(write_to_an_input);
+    if (failed > 0) {
+        printf("the harness does not notice a fault\n");
+    }
+#ifdef __SANITIZE_ADDRESS__
+    __sanitizer_set_death_callback(print_case);
+#endif
+    for (unsigned long i = 0; i < cases; i++) {
+        int good = run_case(seed, first + i);
+        passed += (unsigned long)good;
+        failed += (unsigned long)!good;
+    }
+    print_seen();
+    printf("hostile: %lu passed, %lu failed\n", passed, failed);
+    return failed != 0 || passed == 0;
+}
