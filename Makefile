@@ -1,6 +1,7 @@
 # The library for C programs, its installation and the programs that use it.
 #
 #   make                      prove the library and copy its archive to build/libgabzeril.a
+#   make demo                 prove and build the program, and run it on samples/case-f
 #   make install PREFIX=DIR   header, archive and pkg-config file
 #   make examples             build examples/ against the archive
 #   make check-examples       the same with sanitizers, run and compared
@@ -30,9 +31,15 @@ PROVED := crates.txt $(shell find crates \( -name '*.rt' -o -name '*.antt' \))
 LIBRARY = build/libgabzeril.a
 EXAMPLES = switch collector
 
-.PHONY: all install examples sanitized-examples check-examples check-samples check-hostile clean
+.PHONY: all demo install examples sanitized-examples check-examples check-samples check-hostile clean
 
 all: $(LIBRARY)
+
+target/bin/gabzeril: $(PROVED)
+	rt check gabzeril
+
+demo: target/bin/gabzeril
+	cd samples/case-f && ../../target/bin/gabzeril
 
 target/staticlib/libentry.a: $(PROVED)
 	rt staticlib entry
