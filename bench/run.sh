@@ -45,7 +45,8 @@ if command -v valgrind > /dev/null; then
     count_instructions
 fi
 
-echo "Measured $(date -u +%Y-%m-%d) on $(sed -n 's/^model name[^:]*: //p' /proc/cpuinfo | head -n 1)," \
+commit=$(git describe --always --dirty 2> /dev/null || echo unknown)
+echo "Measured $(date -u +%Y-%m-%d), commit $commit, on $(sed -n 's/^model name[^:]*: //p' /proc/cpuinfo | head -n 1)," \
     "$(nproc) cores, load $(cut -d' ' -f1 /proc/loadavg);" \
     "$(rt version), $(rustc --version), $(valgrind --version 2> /dev/null || echo 'no valgrind: no instructions')."
 for part in "asked $counts $before" "times $counts $before" sqlite stack sent; do

@@ -1,7 +1,7 @@
 -- One law for each way through the calls, over plain variables. Assumes nothing.
 use Prim.Native.Nat.{ℕ, zero, suc, _+_, _<_, _≤_}
 use mathlib.Core.Path.{_≡_, refl, sym, ap, ap₂, _∙_}
-use mathlib.Core.Bool.{Bool, true, false, cond}
+use mathlib.Core.Bool.{Bool, true}
 use mathlib.Core.List.{List, [], _∷_, _++_}
 use native.Mathlib.Numerals.{add-one}
 use native.Mathlib.Omega.{arith}
@@ -9,18 +9,18 @@ use lib.ListN.{length, drop, replicate, set}
 use lib.Dec.{leb}
 use borrow.Author.Tests.{le-leb, lt-leb}
 use Rattle.tables.specs.Answers.{isDone, andThen, unless}
-use Rattle.tables.specs.Words.{rowCount, rows, rowsFrom}
-use Rattle.tables.specs.Rules.{one, around, aroundFrom, checkRule, acceptedRule}
-use Rattle.tables.specs.Tables.{checkTable, acceptedTable}
+use Rattle.tables.specs.Words.{rowCount, rows}
+use Rattle.tables.specs.Rules.{one, aroundFrom, checkRule}
+use Rattle.tables.specs.Tables.{checkTable}
 use Rattle.tables.specs.declared.Answer.{Answer}
 use Rattle.tables.specs.declared.Answer.the-variants.{Done, Refused}
 use Rattle.tables.proofs.Answers.{andThen-first, andThen-next}
 use Rattle.tables.proofs.AcceptedRule.{some-entry}
-use Rattle.logic.specs.Formulas.{formula, formulaAt}
+use Rattle.logic.specs.Formulas.{formula}
 use Rattle.logic.specs.Verdict as meaning
-use Rattle.logic.specs.Marks.{marked, markBytes, reason, marksAnswer, marksOut}
+use Rattle.logic.specs.Marks.{marked, reason, marksAnswer, marksOut}
 use Rattle.engine.specs.Places.{fresh}
-use Rattle.engine.specs.Ready.{meant, Ready, verdictAt}
+use Rattle.engine.specs.Ready.{Ready, verdictAt}
 use Rattle.engine.specs.Marked.{markIn, reasonAt}
 use Rattle.engine.specs.declared.bindings.Bindings.{Bindings}
 use Rattle.engine.proofs.Bound.{meant-fresh, placed-fresh}

@@ -1,9 +1,8 @@
 -- The code's bindings and those that they stand for: none bound, and one more. Assumes nothing.
 use Prim.Native.Nat.{ℕ, zero, suc, _+_, _<_, _≤_}
-use mathlib.Core.Path.{_≡_, refl, sym, ap, fun-ext, _∙_}
+use mathlib.Core.Path.{_≡_, refl, ap, fun-ext, _∙_}
 use mathlib.Core.Bool.{Bool, true, false, cond}
 use mathlib.Core.List.{List}
-use native.Mathlib.Decide.{decLt}
 use native.Mathlib.Numerals.{add-one}
 use native.Mathlib.Omega.{arith}
 use lib.ListN.{length, getD, set, replicate, length-set}
@@ -33,6 +32,9 @@ placed-fresh pool = record { sized = refl; shallow = omega arith; kept = λ v. o
 module _ (pool : List ℕ) (b : Bindings) (placed : Placed pool b) (room : b .depth < nestingLimit) (p : ℕ) where
   bound-is : bindAt b p ≡ record { row = set (b .row) (b .depth) p; depth = b .depth + 1 }
   bound-is = rw (lt-ltb (b .depth) nestingLimit room)
+
+  pub row-bind : bindAt b p .row ≡ set (b .row) (b .depth) p
+  row-bind = ap (λ (x : Bindings). x .row) bound-is
 
   pub depth-bind : bindAt b p .depth ≡ suc (b .depth)
   depth-bind = ap (λ (x : Bindings). x .depth) bound-is ∙ add-one (b .depth)

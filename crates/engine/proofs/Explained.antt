@@ -1,6 +1,6 @@
 -- One law for each way through the marking of a reason, over plain variables. Assumes nothing.
 use Prim.Native.Nat.{ℕ, zero, suc, _+_, _-_, _<_, _≤_}
-use mathlib.Core.Path.{_≡_, refl, sym, ap, ap₂, subst, _∙_}
+use mathlib.Core.Path.{_≡_, refl, sym, ap, ap₂, _∙_}
 use mathlib.Core.Bool.{Bool, true, false, not, cond, _&&_, Bool·beq, true≢false, false≢true}
 use mathlib.Core.List.{List, [], _∷_, _++_, append-nil}
 use native.Mathlib.Omega.{arith}
@@ -11,18 +11,18 @@ use Rattle.base.specs.Lists.{concatMap}
 use Rattle.base.specs.Search.{first}
 use Rattle.base.proofs.Bools.{either, and-right}
 use Rattle.base.proofs.Lists.{concatMap-append}
-use Rattle.base.proofs.Search.{first-le, none-before, at-first}
+use Rattle.base.proofs.Search.{none-before, at-first}
 use Rattle.tables.specs.Words.{rowAt, rowCount, rows, entryAt}
 use Rattle.tables.specs.declared.Row.{Row}
 use Rattle.tables.specs.declared.Entry.{Entry}
-use Rattle.logic.specs.Formulas.{Formula, Connective, and, or, implies, Quantifier, every, some, operandOf, formulaAt}
+use Rattle.logic.specs.Formulas.{Formula, and, or, implies, Quantifier, every, some, operandOf, formulaAt}
 use Rattle.logic.specs.Verdict as meaning
 use Rattle.logic.specs.Marks.{rowOf, rowsOf, leftDecides, rightDecides, because, decides, witnesses, reason}
 use Rattle.logic.proofs.Walks.{settled-left, settled-right, fold-append, fold-one}
 use Rattle.logic.proofs.Reasons.{unsettled-decides, witnesses-all, none-decides, witness-first}
-use Rattle.engine.specs.Places.{bindAt, placeOf, bindingsOf}
+use Rattle.engine.specs.Places.{bindAt, bindingsOf}
 use Rattle.engine.specs.Ready.{connectiveOf, quantifierOf, meant, rangesAt, Ready, verdictAt, ReadyRows, rangedFrom, bodyAt, verdictFrom}
-use Rattle.engine.specs.Marked.{markRows, markIn, markAt, markCompared, reasonAt, sideFor, withBody, reasonFrom, decidesAt}
+use Rattle.engine.specs.Marked.{markIn, markAt, markCompared, reasonAt, sideFor, withBody, reasonFrom, decidesAt}
 use Rattle.engine.specs.declared.bindings.Bindings.{Bindings}
 use Rattle.engine.proofs.Bound.{depth-bind, meant-bind, place-row}
 use Rattle.engine.proofs.Opened.{not-formula, joined-formula, quantified-formula, compared-formula}

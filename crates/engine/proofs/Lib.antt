@@ -7,3 +7,4 @@ pub mod Steps
 pub mod Marking
 pub mod Explained
 pub mod Answered
+pub mod Settled

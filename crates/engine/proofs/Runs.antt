@@ -1,8 +1,8 @@
 -- A quantifier under a bound row ranges only over the rows of that row's device behind it. Assumes nothing.
-use Prim.Native.Nat.{ℕ, zero, suc, _+_, _-_, _<_, _≤_}
-use mathlib.Core.Path.{_≡_, refl, sym, ap, _∙_}
+use Prim.Native.Nat.{ℕ, suc, _+_, _-_, _<_, _≤_}
+use mathlib.Core.Path.{_≡_, sym, ap, _∙_}
 use mathlib.Core.Bool.{Bool, true, false, not, _&&_}
-use mathlib.Core.List.{List, []}
+use mathlib.Core.List.{List}
 use native.Mathlib.Omega.{arith}
 use lib.ListN.{getD}
 use lib.Dec.{eqb}
@@ -11,16 +11,16 @@ use Rattle.base.specs.Lists.{select}
 use Rattle.base.specs.Search.{first}
 use Rattle.base.proofs.Bools.{either}
 use Rattle.base.proofs.Search.{first-le, at-first}
-use Rattle.tables.specs.Words.{rowAt, rowCount, rows, rowsFrom}
+use Rattle.tables.specs.Words.{rowAt, rowCount, rowsFrom}
 use Rattle.tables.specs.Tables.{isParent, acceptedTable}
 use Rattle.tables.specs.declared.Row.{Row}
 use Rattle.tables.specs.declared.Entry.{Entry}
 use Rattle.tables.proofs.Accepted.{rises, behind, parent-device}
 use Rattle.logic.specs.Formulas.{overOf}
 use Rattle.logic.specs.Verdict.{hangs, named, ranges}
-use Rattle.logic.proofs.Walks.{select-span, select-none}
+use Rattle.logic.proofs.Walks.{select-span}
 use Rattle.engine.specs.Places.{placeOf, bindingsOf}
-use Rattle.engine.specs.Ready.{Placed, rangesAt, otherDevice, Covers}
+use Rattle.engine.specs.Ready.{rangesAt, otherDevice, Covers}
 use Rattle.engine.specs.declared.bindings.Bindings.{Bindings}
 
 module _ (pool : List ℕ) (d i : ℕ) (x : Row) (x-is : x ≡ rowAt pool i) where

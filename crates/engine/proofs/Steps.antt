@@ -1,7 +1,7 @@
 -- One law for each way through the evaluator and the row walk, over plain variables. Assumes nothing.
-use Prim.Native.Nat.{ℕ, zero, suc, _+_, _-_, _<_, _≤_}
+use Prim.Native.Nat.{ℕ, _+_, _-_, _<_, _≤_}
 use mathlib.Core.Path.{_≡_, refl, sym, ap, ap₂, subst, _∙_}
-use mathlib.Core.Bool.{Bool, true, false, not, cond, _&&_, _||_, Bool·beq, true≢false, false≢true}
+use mathlib.Core.Bool.{Bool, true, false, not, cond, Bool·beq, true≢false, false≢true}
 use mathlib.Core.List.{List, [], _∷_, _++_}
 use native.Mathlib.Omega.{arith}
 use lib.Dec.{eqb}
@@ -10,14 +10,13 @@ use Rattle.base.specs.Search.{first}
 use Rattle.base.proofs.Search.{first-le, none-before, at-first}
 use Rattle.tables.specs.Words.{rowAt, rowCount, rows, rowsFrom, entryAt, entryCount}
 use Rattle.tables.specs.Rules.{nestingLimit, around}
-use Rattle.tables.specs.declared.Row.{Row}
 use Rattle.tables.specs.declared.Entry.{Entry}
-use Rattle.logic.specs.Formulas.{Connective, and, or, implies, Quantifier, every, some, formulaAt}
+use Rattle.logic.specs.Formulas.{Connective, and, or, implies, every, some, formulaAt}
 use Rattle.logic.specs.Verdict as meaning
 use Rattle.logic.specs.Marks.{leftDecides}
-use Rattle.logic.proofs.Walks.{select-halves, select-one, select-from, select-none, both-settled, both-decided, fold-append, fold-one}
-use Rattle.engine.specs.Places.{bindAt, placeOf}
-use Rattle.engine.specs.Ready.{connectiveOf, quantifierOf, Placed, meant, comparedAt, rangesAt, Covers, Ready, verdictAt, ReadyRows, rangedFrom, bodyAt, verdictFrom}
+use Rattle.logic.proofs.Walks.{select-halves, select-one, select-from, both-settled, both-decided, fold-append, fold-one}
+use Rattle.engine.specs.Places.{bindAt}
+use Rattle.engine.specs.Ready.{connectiveOf, quantifierOf, meant, comparedAt, rangesAt, Covers, Ready, verdictAt, ReadyRows, rangedFrom, bodyAt, verdictFrom}
 use Rattle.engine.specs.declared.bindings.Bindings.{Bindings}
 use Rattle.engine.proofs.Bound.{depth-bind, placed-bind, meant-bind, place-row}
 use Rattle.engine.proofs.Opened.{Opened, opened, not-formula, joined-formula, quantified-formula, compared-formula}
@@ -127,6 +126,9 @@ module _ (rule pool : List ℕ) (b : Bindings) (e : ℕ) (ready : Ready rule poo
       below-seven = subst (λ (z : Entry). z .kind ≤ 6) x-is (omega arith);
       place = h;
     }
+
+    pub kind-verdict : (v : Bool) → eqb (entryAt rule e .kind) 5 ≡ v → eqb (x .kind) 5 ≡ v
+    kind-verdict v h = ap (λ (z : Entry). eqb (z .kind) 5) x-is ∙ h
 
     pub run-limit : x .b ≤ nestingLimit
     run-limit = omega (arith, entry .over-bound high (omega arith), ready .depth-is, ready .placed .shallow)

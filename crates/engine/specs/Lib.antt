@@ -1,3 +1,4 @@
 pub mod Places
 pub mod Ready
 pub mod Marked
+pub mod Settling

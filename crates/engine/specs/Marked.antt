@@ -37,7 +37,7 @@ markCompared b e m = cond (eqb (e .b) 0) (markAt (getD (b .row) (e .c) 0) (markA
 abbrev pub reasonAt : List ℕ → List ℕ → Bindings → ℕ → List Row
 reasonAt rule pool b e = reason (formulaAt rule e) (rows pool) (b .depth) (meant pool b)
 
--- the left side's verdict where it is in the reason of a connective with verdict v
+-- the left side's verdict that goes with a connective's verdict v: where it is in its reason, or would settle it
 abbrev pub sideFor : Connective → Bool → Bool
 sideFor and v = v
 sideFor or v = v

@@ -1,62 +1,13 @@
 // The evaluator: the verdict of an entry, and the walk of a quantifier's rows.
 use super::bindings::Bindings;
+use super::certain::settled_before;
+use super::comparisons::compared;
+use super::connectives::left_decides;
 use super::ranges::next_ranged;
 use super::ranges::run_of;
 use super::words::entry_at;
-use super::words::place_of;
-use super::words::value_at;
-use tables::Entry;
 ghost use mathlib.Core.Path.{_≡_};
-ghost use Prim.Native.Nat.{_<_, _≤_};
-ghost use Rattle.tables.specs.Words.{entryAt};
-ghost use Rattle.logic.specs.Verdict.{compare, valueOf};
-ghost use Rattle.logic.specs.Marks.{leftDecides};
-ghost use Rattle.logic.specs.Formulas.{operandOf};
-ghost use Rattle.engine.specs.Ready.{Placed, connectiveOf, comparisonOf, meant, comparedAt, Ready, ReadyRows, verdictAt, verdictFrom};
-
-// A comparison of kind 7, 8 or 9.
-fn compare_values(kind: u32, x: u32, y: u32) -> bool
-    ensures { λ r. ⌜ r ≡ compare (comparisonOf kind) x y ⌝ }
-{
-    if kind == 7 {
-        return x == y;
-    }
-    if kind == 8 {
-        return x < y;
-    }
-    x <= y
-}
-
-// What a variable is compared with.
-fn operand(pool: &[u32], b: Bindings, e: Entry) -> u32
-    requires { ⌜ Placed (now pool) b ⌝ }
-    requires { ⌜ (e .b ≡ 0 → e .c < 8) ⌝ }
-    ensures { λ r. ⌜ r ≡ valueOf (meant (now (pool .entry)) b) (operandOf (e .b) (e .c)) ⌝ }
-{
-    if e.b == 0 {
-        return value_at(pool, place_of(b, e.c as usize));
-    }
-    e.c
-}
-
-// Whether a comparison holds.
-fn compared(pool: &[u32], b: Bindings, e: Entry) -> bool
-    requires { ⌜ Placed (now pool) b ⌝ }
-    requires { ⌜ e .a < 8 ⌝ }
-    requires { ⌜ (e .b ≡ 0 → e .c < 8) ⌝ }
-    ensures { λ r. ⌜ r ≡ comparedAt (now (pool .entry)) b e ⌝ }
-{
-    let left = value_at(pool, place_of(b, e.a as usize));
-    let right = operand(pool, b, e);
-    compare_values(e.kind, left, right)
-}
-
-// Whether the left side of a connective of kind 2, 3 or 4 decides it.
-pub(crate) fn left_decides(kind: u32, left: bool) -> bool
-    ensures { λ r. ⌜ r ≡ leftDecides (connectiveOf kind) left ⌝ }
-{
-    if kind == 3 { left } else { !left }
-}
+ghost use Rattle.engine.specs.Ready.{Ready, ReadyRows, verdictAt, verdictFrom};
 
 // The verdict of an entry.
 pub(crate) fn holds(rule: &[u32], pool: &[u32], b: Bindings, entry: usize) -> bool
@@ -76,6 +27,9 @@ pub(crate) fn holds(rule: &[u32], pool: &[u32], b: Bindings, entry: usize) -> bo
         return holds(rule, pool, b, e.b as usize);
     }
     if e.kind < 7 {
+        if settled_before(rule, pool, b, entry) {
+            return e.kind == 5;
+        }
         let r = run_of(pool, b, e);
         return walk(rule, pool, b, entry, r.start, r.rows);
     }

@@ -1,6 +1,9 @@
 // Verdict and marks of a rule on a pool.
 mod bindings;
 mod calls;
+mod certain;
+mod comparisons;
+mod connectives;
 mod evaluator;
 mod ranges;
 mod reasons;

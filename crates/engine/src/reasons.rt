@@ -1,7 +1,8 @@
 // Marks the reason of an entry with its verdict.
 use super::bindings::Bindings;
+use super::connectives::left_decides;
+use super::connectives::side;
 use super::evaluator::holds;
-use super::evaluator::left_decides;
 use super::ranges::next_ranged;
 use super::ranges::ranges;
 use super::ranges::run_of;
@@ -14,8 +15,8 @@ ghost use lib.ListN.{length, getD};
 ghost use Rattle.base.specs.Search.{first};
 ghost use Rattle.tables.specs.Words.{entryAt, rowCount};
 ghost use Rattle.logic.specs.Verdict.{settled};
-ghost use Rattle.engine.specs.Ready.{connectiveOf, quantifierOf, Ready, ReadyRows, verdictAt, verdictFrom};
-ghost use Rattle.engine.specs.Marked.{markIn, markAt, markCompared, reasonAt, reasonFrom, sideFor, decidesAt};
+ghost use Rattle.engine.specs.Ready.{quantifierOf, Ready, ReadyRows, verdictAt, verdictFrom};
+ghost use Rattle.engine.specs.Marked.{markIn, markAt, markCompared, reasonAt, reasonFrom, decidesAt};
 
 // Marks the row at a place.
 fn mark(place: usize, out: &mut [u8])
@@ -37,19 +38,6 @@ fn mark_compared(b: Bindings, e: Entry, out: &mut [u8])
     if e.b == 0 {
         mark(place_of(b, e.c as usize), out);
     }
-}
-
-// The left side's verdict where it is in the reason of a connective with that verdict.
-fn side(kind: u32, verdict: bool) -> bool
-    ensures { λ r. ⌜ r ≡ sideFor (connectiveOf kind) verdict ⌝ }
-{
-    if kind == 2 {
-        return verdict;
-    }
-    if kind == 3 {
-        return verdict;
-    }
-    !verdict
 }
 
 // Whether a quantifier's entry ranges over a row and is decided there.

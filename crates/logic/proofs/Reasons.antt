@@ -1,8 +1,8 @@
 -- The rows that decide a quantifier, found by their numbers. Assumes nothing.
 use Prim.Native.Nat.{ℕ, zero, suc, _+_, _<_, _≤_}
-use mathlib.Core.Path.{_≡_, refl, sym, ap, _∙_}
+use mathlib.Core.Path.{_≡_, refl, sym, _∙_}
 use mathlib.Core.Logic.{⊎-elim}
-use mathlib.Core.Bool.{Bool, true, false, cond, not, _&&_, true≢false}
+use mathlib.Core.Bool.{Bool, true, false, _&&_, true≢false}
 use mathlib.Core.List.{List, [], _∷_}
 use native.Mathlib.Nat.{eq-or-lt-of-le}
 use native.Mathlib.Omega.{arith}
@@ -10,7 +10,7 @@ use Rattle.base.specs.Lists.{put, select}
 use Rattle.tables.specs.Words.{rowAt, rowsFrom}
 use Rattle.tables.specs.declared.Row.{Row}
 use Rattle.logic.specs.Formulas.{Quantifier, every, some}
-use Rattle.logic.specs.Verdict.{settled, both, fold}
+use Rattle.logic.specs.Verdict.{settled, fold}
 use Rattle.logic.specs.Marks.{decides, firstDeciding, witnesses}
 use Rattle.logic.proofs.Walks.{both-settled}
 

@@ -1,5 +1,4 @@
 -- `engine::calls::check_both` meets its contract. Assumes nothing.
-use denote.Ref.{now}
 use Rattle.engine.proofs.Answered.{next-answer, refused-answer}
 use borrow.Author.Needs.{needs}
 use Rattle.engine.proofs.calls.check_both.Statement.{statement}

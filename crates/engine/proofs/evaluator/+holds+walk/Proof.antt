@@ -6,7 +6,6 @@ use denote.Ref.{now}
 use Rattle.tables.specs.Words.{entryCount, rowCount}
 use Rattle.engine.proofs.Falls.{entry-measure, rows-measure, below, falls-child, falls-rows, falls-body, falls-part}
 use Rattle.engine.proofs.Steps as steps
-use Prim.Native.Nat.{ℕ, _<_}
 use borrow.Fn.Kinds.{In}
 use borrow.Fn.PlainCycle.{Measures, is, falls, and}
 use Rattle.engine.proofs.evaluator.holds.Reads as holds
@@ -16,8 +15,9 @@ use Rattle.engine.proofs.evaluator.walk.Reads as walk
 use Rattle.engine.proofs.evaluator.walk.Kinds as walk-kinds
 use Rattle.engine.proofs.evaluator.+holds+walk.Lts-walk as walk-lts
 use Rattle.engine.proofs.bindings.Bindings.bind.Reads as bind-reads
-use Rattle.engine.proofs.evaluator.compared.Reads as compared-reads
-use Rattle.engine.proofs.evaluator.left_decides.Reads as left-decides-reads
+use Rattle.engine.proofs.certain.settled_before.Reads as settled-before-reads
+use Rattle.engine.proofs.comparisons.compared.Reads as compared-reads
+use Rattle.engine.proofs.connectives.left_decides.Reads as left-decides-reads
 use Rattle.engine.proofs.ranges.next_ranged.Reads as next-ranged-reads
 use Rattle.engine.proofs.ranges.run_of.Reads as run-of-reads
 use Rattle.engine.proofs.words.entry_at.Reads as entry-at-reads
@@ -43,7 +43,7 @@ abbrev walk-below : ℕ → In 2 walk-kinds.ps
 walk-below t = and 2 walk-kinds.ps (falls 2 walk-kinds.ps _<_ μ-walk t) walk.Pre
 
 abbrev holds-claims : ℕ → holds-lts.Claims
-holds-claims t = (entry-at-reads.Asked, entry-at-reads.Learnt, holds-below t, holds.Post, left-decides-reads.Asked, left-decides-reads.Learnt, run-of-reads.Asked, run-of-reads.Learnt, walk-below t, walk.Post, compared-reads.Asked, compared-reads.Learnt)
+holds-claims t = (entry-at-reads.Asked, entry-at-reads.Learnt, holds-below t, holds.Post, left-decides-reads.Asked, left-decides-reads.Learnt, settled-before-reads.Asked, settled-before-reads.Learnt, run-of-reads.Asked, run-of-reads.Learnt, walk-below t, walk.Post, compared-reads.Asked, compared-reads.Learnt)
 
 holds-entry-at-requires : (t : ℕ) → holds-lts.Need-entry-at-requires (holds-claims t) (holds-at t) holds.Post
 holds-entry-at-requires t c κs =
@@ -85,24 +85,32 @@ holds-returns-3 : (t : ℕ) → holds-lts.Need-returns-3 (holds-claims t) (holds
 holds-returns-3 t c =
     let s = c .before .before .before .before .before .before .before .before .before .before .before .before .before in steps.right-verdict (now (s .args .rule)) (now (s .args .pool)) (s .args .b) (s .args .entry) (s .pre .1) (c .before .before .before .before .before .before .before .before .before .before .entry-at .result) (c .before .before .before .before .before .before .before .before .before .before .entry-at .ensures) (c .before .before .before .before .before .before .before .if1 .left) (c .before .before .before .before .before .if2 .taken) _ _ (c .before .before .before .before .holds2 .ensures) (c .before .before .before .left-decides .ensures) (c .before .before .if3 .left) _ (c .holds3 .ensures)
 
-holds-run-of-requires : (t : ℕ) → holds-lts.Need-run-of-requires (holds-claims t) (holds-at t) holds.Post
-holds-run-of-requires t c κs =
-    let s = c .before .before .before .before .before .before .before .before .before .before in (s .pre .1 .placed, (s .pre .1 .pool-accepted, steps.run-limit (now (s .args .rule)) (now (s .args .pool)) (s .args .b) (s .args .entry) (s .pre .1) (c .before .before .before .before .before .before .before .entry-at .result) (c .before .before .before .before .before .before .before .entry-at .ensures) (c .before .before .if2 .left) (c .if4 .taken)))
-
-holds-walk-requires : (t : ℕ) → holds-lts.Need-walk-requires (holds-claims t) (holds-at t) holds.Post
-holds-walk-requires t c κs =
-    let s = c .before .before .before .before .before .before .before .before .before .before .before in (below (s .pre .0) (falls-rows (entryCount (now (s .args .rule))) (rowCount (now (s .args .pool))) (s .args .entry) 0 (c .run-of .result .rows) (s .pre .1 .inside) (omega (arith, c .run-of .ensures .place))), (steps.rows-ready (now (s .args .rule)) (now (s .args .pool)) (s .args .b) (s .args .entry) (s .pre .1) (c .before .before .before .before .before .before .before .before .entry-at .result) (c .before .before .before .before .before .before .before .before .entry-at .ensures) (c .before .before .before .if2 .left) (c .before .if4 .taken) (c .run-of .result .start) (c .run-of .result .rows) (c .run-of .ensures .place)))
+holds-settled-before-requires : (t : ℕ) → holds-lts.Need-settled-before-requires (holds-claims t) (holds-at t) holds.Post
+holds-settled-before-requires t c κs =
+    let s = c .before .before .before .before .before .before .before .before .before .before in steps.rows-ready (now (s .args .rule)) (now (s .args .pool)) (s .args .b) (s .args .entry) (s .pre .1) (c .before .before .before .before .before .before .before .entry-at .result) (c .before .before .before .before .before .before .before .entry-at .ensures) (c .before .before .if2 .left) (c .if4 .taken) 0 0 (omega arith)
 
 holds-returns-4 : (t : ℕ) → holds-lts.Need-returns-4 (holds-claims t) (holds-at t) holds.Post
 holds-returns-4 t c =
-    let s = c .before .before .before .before .before .before .before .before .before .before .before .before in steps.quantified-verdict (now (s .args .rule)) (now (s .args .pool)) (s .args .b) (s .args .entry) (c .before .run-of .result .start) (c .before .run-of .result .rows) (steps.rows-ready (now (s .args .rule)) (now (s .args .pool)) (s .args .b) (s .args .entry) (s .pre .1) (c .before .before .before .before .before .before .before .before .before .entry-at .result) (c .before .before .before .before .before .before .before .before .before .entry-at .ensures) (c .before .before .before .before .if2 .left) (c .before .before .if4 .taken) (c .before .run-of .result .start) (c .before .run-of .result .rows) (c .before .run-of .ensures .place)) (steps.run-whole (now (s .args .rule)) (now (s .args .pool)) (s .args .b) (s .args .entry) (s .pre .1) (c .before .before .before .before .before .before .before .before .before .entry-at .result) (c .before .before .before .before .before .before .before .before .before .entry-at .ensures) (c .before .before .before .before .if2 .left) (c .before .before .if4 .taken) (c .before .run-of .result .start) (c .before .run-of .result .rows) (c .before .run-of .ensures)) _ (c .walk .ensures)
+    let s = c .before .before .before .before .before .before .before .before .before .before .before .before .before in steps.kind-verdict (now (s .args .rule)) (now (s .args .pool)) (s .args .b) (s .args .entry) (s .pre .1) (c .before .before .before .before .before .before .before .before .before .before .entry-at .result) (c .before .before .before .before .before .before .before .before .before .before .entry-at .ensures) (c .before .before .before .before .before .if2 .left) (c .before .before .before .if4 .taken) _ (c .before .before .settled-before .ensures .sure (c .before .if5 .taken))
+
+holds-run-of-requires : (t : ℕ) → holds-lts.Need-run-of-requires (holds-claims t) (holds-at t) holds.Post
+holds-run-of-requires t c κs =
+    let s = c .before .before .before .before .before .before .before .before .before .before .before .before in (s .pre .1 .placed, (s .pre .1 .pool-accepted, steps.run-limit (now (s .args .rule)) (now (s .args .pool)) (s .args .b) (s .args .entry) (s .pre .1) (c .before .before .before .before .before .before .before .before .before .entry-at .result) (c .before .before .before .before .before .before .before .before .before .entry-at .ensures) (c .before .before .before .before .if2 .left) (c .before .before .if4 .taken)))
+
+holds-walk-requires : (t : ℕ) → holds-lts.Need-walk-requires (holds-claims t) (holds-at t) holds.Post
+holds-walk-requires t c κs =
+    let s = c .before .before .before .before .before .before .before .before .before .before .before .before .before in (below (s .pre .0) (falls-rows (entryCount (now (s .args .rule))) (rowCount (now (s .args .pool))) (s .args .entry) 0 (c .run-of .result .rows) (s .pre .1 .inside) (omega (arith, c .run-of .ensures .place))), (steps.rows-ready (now (s .args .rule)) (now (s .args .pool)) (s .args .b) (s .args .entry) (s .pre .1) (c .before .before .before .before .before .before .before .before .before .before .entry-at .result) (c .before .before .before .before .before .before .before .before .before .before .entry-at .ensures) (c .before .before .before .before .before .if2 .left) (c .before .before .before .if4 .taken) (c .run-of .result .start) (c .run-of .result .rows) (c .run-of .ensures .place)))
+
+holds-returns-5 : (t : ℕ) → holds-lts.Need-returns-5 (holds-claims t) (holds-at t) holds.Post
+holds-returns-5 t c =
+    let s = c .before .before .before .before .before .before .before .before .before .before .before .before .before .before in steps.quantified-verdict (now (s .args .rule)) (now (s .args .pool)) (s .args .b) (s .args .entry) (c .before .run-of .result .start) (c .before .run-of .result .rows) (steps.rows-ready (now (s .args .rule)) (now (s .args .pool)) (s .args .b) (s .args .entry) (s .pre .1) (c .before .before .before .before .before .before .before .before .before .before .before .entry-at .result) (c .before .before .before .before .before .before .before .before .before .before .before .entry-at .ensures) (c .before .before .before .before .before .before .if2 .left) (c .before .before .before .before .if4 .taken) (c .before .run-of .result .start) (c .before .run-of .result .rows) (c .before .run-of .ensures .place)) (steps.run-whole (now (s .args .rule)) (now (s .args .pool)) (s .args .b) (s .args .entry) (s .pre .1) (c .before .before .before .before .before .before .before .before .before .before .before .entry-at .result) (c .before .before .before .before .before .before .before .before .before .before .before .entry-at .ensures) (c .before .before .before .before .before .before .if2 .left) (c .before .before .before .before .if4 .taken) (c .before .run-of .result .start) (c .before .run-of .result .rows) (c .before .run-of .ensures)) _ (c .walk .ensures)
 
 holds-compared-requires : (t : ℕ) → holds-lts.Need-compared-requires (holds-claims t) (holds-at t) holds.Post
 holds-compared-requires t c κs =
     let s = c .before .before .before .before .before .before .before .before .before .before in (s .pre .1 .placed, (steps.left-limit (now (s .args .rule)) (now (s .args .pool)) (s .args .b) (s .args .entry) (s .pre .1) (c .before .before .before .before .before .before .before .entry-at .result) (c .before .before .before .before .before .before .before .entry-at .ensures) (c .if4 .left), steps.right-limit (now (s .args .rule)) (now (s .args .pool)) (s .args .b) (s .args .entry) (s .pre .1) (c .before .before .before .before .before .before .before .entry-at .result) (c .before .before .before .before .before .before .before .entry-at .ensures) (c .if4 .left)))
 
-holds-returns-5 : (t : ℕ) → holds-lts.Need-returns-5 (holds-claims t) (holds-at t) holds.Post
-holds-returns-5 t c =
+holds-returns-6 : (t : ℕ) → holds-lts.Need-returns-6 (holds-claims t) (holds-at t) holds.Post
+holds-returns-6 t c =
     let s = c .before .before .before .before .before .before .before .before .before .before .before in steps.compared-verdict (now (s .args .rule)) (now (s .args .pool)) (s .args .b) (s .args .entry) (s .pre .1) (c .before .before .before .before .before .before .before .before .entry-at .result) (c .before .before .before .before .before .before .before .before .entry-at .ensures) (c .before .if4 .left) _ (c .compared .ensures)
 
 abbrev walk-claims : ℕ → walk-lts.Claims
@@ -175,5 +183,5 @@ walk-returns-4 t c =
 pub +holds+walk-spec : {M : Type 1} → statement M
 +holds+walk-spec =
     close μ-holds μ-walk
-    (λ t. holds-lts.spec (holds-claims t) (holds-at t) holds.Post (holds-entry-at-requires t) (holds-cast-a t) (holds-holds-requires t) (holds-returns t) (holds-holds-requires-2 t) (holds-left-decides-requires t) (holds-returns-2 t) (holds-cast-holds t) (holds-holds-requires-3 t) (holds-returns-3 t) (holds-run-of-requires t) (holds-walk-requires t) (holds-returns-4 t) (holds-compared-requires t) (holds-returns-5 t))
+    (λ t. holds-lts.spec (holds-claims t) (holds-at t) holds.Post (holds-entry-at-requires t) (holds-cast-a t) (holds-holds-requires t) (holds-returns t) (holds-holds-requires-2 t) (holds-left-decides-requires t) (holds-returns-2 t) (holds-cast-holds t) (holds-holds-requires-3 t) (holds-returns-3 t) (holds-settled-before-requires t) (holds-returns-4 t) (holds-run-of-requires t) (holds-walk-requires t) (holds-returns-5 t) (holds-compared-requires t) (holds-returns-6 t))
     (λ t. walk-lts.spec (walk-claims t) (walk-at t) walk.Post (walk-entry-at-requires t) (walk-next-ranged-requires t) (walk-add-left t) (walk-sub-left t) (walk-returns t) (walk-walk-requires t) (walk-add-walk t) (walk-sub-walk t) (walk-walk-requires-2 t) (walk-returns-2 t) (walk-returns-3 t) (walk-add-bind t) (walk-bind-requires t) (walk-cast-holds t) (walk-holds-requires t) (walk-returns-4 t))

@@ -3,10 +3,10 @@ use borrow.Author.Needs.{needs}
 use Rattle.engine.proofs.Runs.{device-other, device-same}
 use denote.Ref.{now}
 use Prim.Native.Nat.{ℕ, _+_, _-_}
-use mathlib.Core.Path.{_≡_, refl, ap, sym, _∙_}
+use mathlib.Core.Path.{ap, _∙_}
 use native.Mathlib.Omega.{arith}
 use Rattle.base.proofs.Search.{Passed, begin, hit, miss, none}
-use Rattle.tables.specs.Words.{rowAt, rowCount}
+use Rattle.tables.specs.Words.{rowCount}
 use Rattle.engine.specs.Ready.{otherDevice}
 use Rattle.engine.proofs.ranges.device_end.Statement.{statement}
 use Rattle.engine.proofs.ranges.device_end.Tie as tie

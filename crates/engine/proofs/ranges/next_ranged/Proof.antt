@@ -1,7 +1,6 @@
 -- `engine::ranges::next_ranged` meets its contract. Assumes nothing.
 use Prim.Native.Nat.{ℕ, _+_, _-_}
 use mathlib.Core.Path.{ap, sym, _∙_}
-use mathlib.Core.Bool.{Bool}
 use native.Mathlib.Omega.{arith}
 use Rattle.base.proofs.Search.{Passed, begin, hit, miss, none}
 use Rattle.tables.specs.Words.{rowAt}

@@ -2,7 +2,6 @@
 use denote.Ref.{now}
 use Prim.Native.Nat.{_-_}
 use native.Mathlib.Omega.{arith}
-use Rattle.tables.specs.Words.{rowAt}
 use Rattle.engine.proofs.Leaves.{ranges-other, ranges-root, ranges-nothing, ranges-child}
 use borrow.Author.Needs.{needs}
 use Rattle.engine.proofs.ranges.ranges.Statement.{statement}

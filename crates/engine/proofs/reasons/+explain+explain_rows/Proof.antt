@@ -9,7 +9,6 @@ use Rattle.tables.specs.Words.{entryCount, rowCount}
 use Rattle.engine.proofs.Falls.{entry-measure, rows-measure, below, falls-child, falls-rows, falls-body, falls-part}
 use Rattle.engine.proofs.Steps as steps
 use Rattle.engine.proofs.Explained as explained
-use Prim.Native.Nat.{ℕ, _<_}
 use borrow.Fn.Kinds.{In}
 use borrow.Fn.PlainCycle.{Measures, is, falls, and}
 use Rattle.engine.proofs.reasons.explain.Reads as explain
@@ -19,13 +18,13 @@ use Rattle.engine.proofs.reasons.explain_rows.Reads as explain-rows
 use Rattle.engine.proofs.reasons.explain_rows.Kinds as explain-rows-kinds
 use Rattle.engine.proofs.reasons.+explain+explain_rows.Lts-explain_rows as explain-rows-lts
 use Rattle.engine.proofs.bindings.Bindings.bind.Reads as bind-reads
+use Rattle.engine.proofs.connectives.left_decides.Reads as left-decides-reads
+use Rattle.engine.proofs.connectives.side.Reads as side-reads
 use Rattle.engine.proofs.evaluator.holds.Reads as holds-reads
-use Rattle.engine.proofs.evaluator.left_decides.Reads as left-decides-reads
 use Rattle.engine.proofs.ranges.next_ranged.Reads as next-ranged-reads
 use Rattle.engine.proofs.ranges.run_of.Reads as run-of-reads
 use Rattle.engine.proofs.reasons.first_deciding.Reads as first-deciding-reads
 use Rattle.engine.proofs.reasons.mark_compared.Reads as mark-compared-reads
-use Rattle.engine.proofs.reasons.side.Reads as side-reads
 use Rattle.engine.proofs.words.entry_at.Reads as entry-at-reads
 use Rattle.engine.proofs.reasons.+explain+explain_rows.{statement}
 use Rattle.engine.proofs.reasons.+explain+explain_rows.Tie.{close}
@@ -171,7 +170,7 @@ explain-explain-requires-6 t c κs =
 
 explain-same-length-6 : (t : ℕ) → explain-lts.Need-same-length-6 (explain-claims t) (explain-at t) explain.Post
 explain-same-length-6 t c =
-    let s = c .before .before .before .before .before .before .before .before .before .before .before .before .before .before .before .before .before .before .before .before in c .before .before .explain6 .kept .1 .1 .1 .1 .1 .0 ∙ length-set (now (s .args .out)) (c .before .before .before .before .before .first-deciding .result) 1
+    let s = c .before .before .before .before .before .before .before .before .before .before .before .before .before .before .before .before .before .before .before .before in c .before .before .explain6 .kept .1 .1 .1 .1 .1 .0 ∙ length-set (now (s .args .out)) (c .before .before .before .before .before .first-deciding .result) _
 
 explain-returns-6 : (t : ℕ) → explain-lts.Need-returns-6 (explain-claims t) (explain-at t) explain.Post
 explain-returns-6 t c =
@@ -258,7 +257,7 @@ explain-rows-explain-requires t c κs =
 
 explain-rows-same-length-2 : (t : ℕ) → explain-rows-lts.Need-same-length-2 (explain-rows-claims t) (explain-rows-at t) explain-rows.Post
 explain-rows-same-length-2 t c =
-    let s = c .before .before .before .before .before .before .before .before .before .before .before .before .before .before in c .before .before .explain .kept .1 .1 .1 .1 .1 .0 ∙ length-set (now (s .args .out)) (c .before .before .before .before .before .before .before .before .before .next-ranged .result) 1
+    let s = c .before .before .before .before .before .before .before .before .before .before .before .before .before .before in c .before .before .explain .kept .1 .1 .1 .1 .1 .0 ∙ length-set (now (s .args .out)) (c .before .before .before .before .before .before .before .before .before .next-ranged .result) _
 
 explain-rows-returns-3 : (t : ℕ) → explain-rows-lts.Need-returns-3 (explain-rows-claims t) (explain-rows-at t) explain-rows.Post
 explain-rows-returns-3 t c =

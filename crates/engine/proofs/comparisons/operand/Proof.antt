@@ -1,11 +1,11 @@
--- `engine::evaluator::operand` meets its contract. Assumes nothing.
+-- `engine::comparisons::operand` meets its contract. Assumes nothing.
 use denote.Ref.{now}
 use native.Mathlib.Omega.{arith}
 use Rattle.engine.proofs.Leaves.{operand-variable, operand-constant}
 use Rattle.engine.specs.Ready.{meant}
 use borrow.Author.Needs.{needs}
-use Rattle.engine.proofs.evaluator.operand.Statement.{statement}
-use Rattle.engine.proofs.evaluator.operand.Tie as tie
+use Rattle.engine.proofs.comparisons.operand.Statement.{statement}
+use Rattle.engine.proofs.comparisons.operand.Tie as tie
 
 pub operand-spec : {M : Type 1} → statement M
 operand-spec = tie.close (tie.spec

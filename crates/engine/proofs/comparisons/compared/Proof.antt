@@ -1,4 +1,4 @@
--- `engine::evaluator::compared` meets its contract. Assumes nothing.
+-- `engine::comparisons::compared` meets its contract. Assumes nothing.
 use denote.Ref.{now}
 use native.Mathlib.Omega.{arith}
 use mathlib.Core.Path.{ap₂, _∙_}
@@ -6,8 +6,8 @@ use Rattle.logic.specs.Verdict.{compare}
 use Rattle.engine.specs.Ready.{comparisonOf}
 use Rattle.engine.proofs.Leaves.{value-bound}
 use borrow.Author.Needs.{needs}
-use Rattle.engine.proofs.evaluator.compared.Statement.{statement}
-use Rattle.engine.proofs.evaluator.compared.Tie as tie
+use Rattle.engine.proofs.comparisons.compared.Statement.{statement}
+use Rattle.engine.proofs.comparisons.compared.Tie as tie
 
 pub compared-spec : {M : Type 1} → statement M
 compared-spec = tie.close (tie.spec

@@ -1,7 +1,7 @@
--- `engine::evaluator::compare_values` meets its contract. Assumes nothing.
+-- `engine::comparisons::compare_values` meets its contract. Assumes nothing.
 use Rattle.engine.proofs.Leaves.{compare-equal, compare-less, compare-at-most}
-use Rattle.engine.proofs.evaluator.compare_values.Statement.{statement}
-use Rattle.engine.proofs.evaluator.compare_values.Tie as tie
+use Rattle.engine.proofs.comparisons.compare_values.Statement.{statement}
+use Rattle.engine.proofs.comparisons.compare_values.Tie as tie
 
 pub compare-values-spec : {M : Type 1} → statement M
 compare-values-spec = tie.close (tie.spec

@@ -1,7 +1,7 @@
--- `engine::evaluator::left_decides` meets its contract. Assumes nothing.
+-- `engine::connectives::left_decides` meets its contract. Assumes nothing.
 use Rattle.engine.proofs.Leaves.{or-decides, other-decides}
-use Rattle.engine.proofs.evaluator.left_decides.Statement.{statement}
-use Rattle.engine.proofs.evaluator.left_decides.Tie as tie
+use Rattle.engine.proofs.connectives.left_decides.Statement.{statement}
+use Rattle.engine.proofs.connectives.left_decides.Tie as tie
 
 pub left-decides-spec : {M : Type 1} → statement M
 left-decides-spec = tie.close (tie.spec

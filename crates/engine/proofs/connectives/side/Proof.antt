@@ -1,7 +1,7 @@
--- `engine::reasons::side` meets its contract. Assumes nothing.
+-- `engine::connectives::side` meets its contract. Assumes nothing.
 use Rattle.engine.proofs.Explained.{side-same, side-or, side-turned}
-use Rattle.engine.proofs.reasons.side.Statement.{statement}
-use Rattle.engine.proofs.reasons.side.Tie as tie
+use Rattle.engine.proofs.connectives.side.Statement.{statement}
+use Rattle.engine.proofs.connectives.side.Tie as tie
 
 pub side-spec : {M : Type 1} → statement M
 side-spec = tie.close (tie.spec

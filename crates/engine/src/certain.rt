@@ -1,0 +1,154 @@
+// What is certain of an entry while some variables are unknown: their place is nothing. It settles a quantifier before its rows are walked.
+use super::bindings::Bindings;
+use super::comparisons::compared;
+use super::connectives::side;
+use super::ranges::next_ranged;
+use super::ranges::run_of;
+use super::words::entry_at;
+use super::words::place_of;
+use super::words::row_at;
+use super::words::row_count;
+use tables::Entry;
+ghost use mathlib.Core.Path.{_≡_};
+ghost use Prim.Native.Nat.{_<_, _≤_};
+ghost use Rattle.engine.specs.Ready.{Placed, Ready, ReadyRows};
+ghost use Rattle.engine.specs.Settling.{CertainCompared, KnownParent, Certain, CertainRows, KnownRows, Settles};
+
+// Whether a comparison has the wanted verdict whatever rows the unknown variables have.
+fn sure_compared(pool: &[u32], b: Bindings, e: Entry, want: bool) -> bool
+    requires { ⌜ Placed (now pool) b ⌝ }
+    requires { ⌜ e .a < 8 ⌝ }
+    requires { ⌜ (e .b ≡ 0 → e .c < 8) ⌝ }
+    ensures { λ r. ⌜ CertainCompared (now (pool .entry)) b e want r ⌝ }
+{
+    let left = place_of(b, e.a as usize);
+    if left == 0 {
+        return false;
+    }
+    if e.b != 0 {
+        return compared(pool, b, e) == want;
+    }
+    let right = place_of(b, e.c as usize);
+    if right == 0 {
+        return false;
+    }
+    compared(pool, b, e) == want
+}
+
+// Whether the rows that a quantifier ranges over are known, and few enough to be read ahead: the device has no 64 rows behind the parent.
+fn reads_ahead(pool: &[u32], b: Bindings, e: Entry, effort: usize) -> bool
+    requires { ⌜ Placed (now pool) b ⌝ }
+    requires { ⌜ e .b ≤ 8 ⌝ }
+    ensures { λ r. ⌜ KnownParent b e r ⌝ }
+{
+    let under = e.b as usize;
+    if under == 0 {
+        return false;
+    }
+    let place = place_of(b, under - 1);
+    if place == 0 {
+        return false;
+    }
+    if effort == 0 {
+        return false;
+    }
+    if row_count(pool) < place + 64 {
+        return true;
+    }
+    row_at(pool, place + 63).device != row_at(pool, place - 1).device
+}
+
+// Whether an entry has the wanted verdict whatever rows the unknown variables have. No is always allowed, so `effort` is free: a walk
+// of known rows leaves half of it to each body, and with 1 no walk stands inside another.
+fn sure(rule: &[u32], pool: &[u32], b: Bindings, entry: usize, want: bool, effort: usize) -> bool
+    requires { ⌜ Ready (now rule) (now pool) b entry ⌝ }
+    ensures { λ r. ⌜ Certain (now (rule .entry)) (now (pool .entry)) b entry want r ⌝ }
+{
+    let e = entry_at(rule, entry);
+    let a = e.a as usize;
+    if e.kind == 1 {
+        return sure(rule, pool, b, a, !want, effort);
+    }
+    if e.kind < 5 {
+        let left = sure(rule, pool, b, a, side(e.kind, want), effort);
+        let both = want == (e.kind == 2);
+        if left == both {
+            return sure(rule, pool, b, e.b as usize, want, effort);
+        }
+        return left;
+    }
+    if e.kind < 7 {
+        if reads_ahead(pool, b, e, effort) {
+            let r = run_of(pool, b, e);
+            return scan(rule, pool, b, entry, want, effort, r.start, r.rows);
+        }
+        if want == (e.kind == 5) {
+            return sure(rule, pool, b.bind(0), a, want, effort);
+        }
+        return false;
+    }
+    sure_compared(pool, b, e, want)
+}
+
+// The same of a quantifier's entry over `rows` rows from `row` on, by halves. Its parent's row is known.
+fn scan(
+    rule: &[u32],
+    pool: &[u32],
+    b: Bindings,
+    entry: usize,
+    want: bool,
+    effort: usize,
+    row: usize,
+    rows: usize,
+) -> bool
+    requires { ⌜ KnownRows (now rule) (now pool) b entry row rows ⌝ }
+    ensures { λ r. ⌜ CertainRows (now (rule .entry)) (now (pool .entry)) b entry want row rows r ⌝ }
+{
+    let e = entry_at(rule, entry);
+    let all = want == (e.kind == 5);
+    let first = next_ranged(pool, b, e, row, rows);
+    let left = row + rows - first;
+    if left == 0 {
+        return all;
+    }
+    if 1 < left {
+        let half = left / 2;
+        let known = scan(rule, pool, b, entry, want, effort, first, half);
+        if known == all {
+            return scan(
+                rule,
+                pool,
+                b,
+                entry,
+                want,
+                effort,
+                first + half,
+                left - half,
+            );
+        }
+        return known;
+    }
+    sure(
+        rule,
+        pool,
+        b.bind(first + 1),
+        e.a as usize,
+        want,
+        effort / 2,
+    )
+}
+
+// Whether a quantifier over roots inside another one is settled before its rows are walked.
+pub(crate) fn settled_before(rule: &[u32], pool: &[u32], b: Bindings, entry: usize) -> bool
+    requires { ⌜ ReadyRows (now rule) (now pool) b entry 0 0 ⌝ }
+    ensures { λ r. ⌜ Settles (now (rule .entry)) (now (pool .entry)) b entry r ⌝ }
+{
+    let e = entry_at(rule, entry);
+    if e.b != 0 {
+        return false;
+    }
+    if b.depth == 0 {
+        return false;
+    }
+    sure(rule, pool, b.bind(0), e.a as usize, e.kind == 5, 1)
+}
