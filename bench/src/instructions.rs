@@ -6,7 +6,7 @@ use std::hint::black_box;
 use crate::calls::{Call, Outputs, LIBRARY};
 use crate::cases;
 
-/// The function that callgrind is told to look at. It adds some ten instructions to those of the call.
+/// The function that callgrind is told to look at. It and the wrappers add fewer than a hundred instructions.
 #[no_mangle]
 #[inline(never)]
 pub extern "C" fn measured_call(call: &Call, outputs: &mut Outputs) {
