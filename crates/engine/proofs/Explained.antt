@@ -1,32 +1,33 @@
 -- One law for each way through the marking of a reason, over plain variables. Assumes nothing.
 use Prim.Native.Nat.{ℕ, zero, suc, _+_, _-_, _<_, _≤_}
-use mathlib.Core.Path.{_≡_, refl, sym, ap, ap₂, _∙_}
+use mathlib.Core.Path.{_≡_, refl, sym, ap, ap₂, fun-ext, _∙_}
 use mathlib.Core.Bool.{Bool, true, false, not, cond, _&&_, Bool·beq, true≢false, false≢true}
 use mathlib.Core.List.{List, [], _∷_, _++_, append-nil}
 use native.Mathlib.Omega.{arith}
 use lib.ListN.{getD, set}
 use lib.Dec.{eqb, ltb}
 use borrow.Author.Tests.{eq-eqb, ne-eqb, ltb-true, ltb-false}
-use Rattle.base.specs.Lists.{concatMap}
+use Rattle.base.specs.Lists.{any, concatMap, select}
 use Rattle.base.specs.Search.{first}
 use Rattle.base.proofs.Bools.{either, and-right}
 use Rattle.base.proofs.Lists.{concatMap-append}
 use Rattle.base.proofs.Search.{none-before, at-first}
-use Rattle.tables.specs.Words.{rowAt, rowCount, rows, entryAt}
+use Rattle.tables.specs.Words.{rowAt, rowCount, rows, rowsFrom, entryAt, entryCount}
+use Rattle.tables.specs.Rules.{acceptedRule}
 use Rattle.tables.specs.declared.Row.{Row}
 use Rattle.tables.specs.declared.Entry.{Entry}
-use Rattle.logic.specs.Formulas.{Formula, and, or, implies, Quantifier, every, some, operandOf, formulaAt}
+use Rattle.logic.specs.Formulas.{Formula, negation, and, or, implies, Quantifier, every, some, operandOf, formulaAt}
 use Rattle.logic.specs.Verdict as meaning
 use Rattle.logic.specs.Marks.{rowOf, rowsOf, leftDecides, rightDecides, because, decides, witnesses, reason}
 use Rattle.logic.proofs.Walks.{settled-left, settled-right, fold-append, fold-one}
 use Rattle.logic.proofs.Reasons.{unsettled-decides, witnesses-all, none-decides, witness-first}
 use Rattle.engine.specs.Places.{bindAt, bindingsOf}
 use Rattle.engine.specs.Ready.{connectiveOf, quantifierOf, meant, rangesAt, Ready, verdictAt, ReadyRows, rangedFrom, bodyAt, verdictFrom}
-use Rattle.engine.specs.Marked.{markIn, markAt, markCompared, reasonAt, sideFor, withBody, reasonFrom, decidesAt}
+use Rattle.engine.specs.Marked.{Under, markIn, markAt, markCompared, reasonAt, sideFor, withBody, reasonFrom, decidesAt}
 use Rattle.engine.specs.declared.bindings.Bindings.{Bindings}
 use Rattle.engine.proofs.Bound.{depth-bind, meant-bind, place-row}
-use Rattle.engine.proofs.Opened.{not-formula, joined-formula, quantified-formula, compared-formula}
-use Rattle.engine.proofs.Marking.{mark-append, mark-none, mark-place, mark-first}
+use Rattle.engine.proofs.Opened.{Opened, opened, not-formula, joined-formula, quantified-formula, compared-formula}
+use Rattle.engine.proofs.Marking.{mark-append, mark-none, mark-place, mark-first, mark-each, mark-none-selected}
 use Rattle.engine.proofs.Steps.{same-true, same-false, connect-open, entry, two, joined-verdict, quantifier, room, quantified-verdict, settled-is, body-verdict, ranged-none, ranged-halves, ranged-one, next-place}
 
 -- ---- a place
@@ -119,22 +120,54 @@ module _ (k : ℕ) (l r v : Bool) (v-is : v ≡ meaning.connect (connectiveOf k)
         go false false true h = refl
         go false false false h = absurd (h refl)
 
+-- ---- the entry under nots
+module _ (rule : List ℕ) (e : ℕ) (v : Bool) where
+  pub under-begin : e < entryCount rule → Under rule e v e v
+  under-begin h = record { inside = h; later = omega arith; same-depth = refl; verdict-is = λ T d β k. k; reason-is = λ T d β. refl }
+
+  module _ (f : ℕ) (w : Bool) (u : Under rule e v f w) where
+    module _ (ok : acceptedRule rule ≡ true) (x : Entry) (x-is : x ≡ entryAt rule f) (one : x .kind ≡ 1) where
+      o : Opened rule f x
+      o = opened rule ok f (u .inside) x x-is
+
+      pub under-later : (f < x .a) × (x .a < entryCount rule)
+      under-later = o .child (omega arith)
+
+      is-not : formulaAt rule f ≡ negation (formulaAt rule (x .a))
+      is-not = not-formula rule f x o one
+
+      pub under-not : Under rule e v (x .a) (not w)
+      unfolding meaning.holds reason
+      under-not = record {
+        inside = under-later .1;
+        later = omega (arith, u .later, under-later .0);
+        same-depth = o .child-depth (omega arith) ∙ u .same-depth;
+        verdict-is = λ T d β k. ap not (u .verdict-is T d β k ∙ ap (λ (F : Formula). meaning.holds F T d β) is-not) ∙ twice (meaning.holds (formulaAt rule (x .a)) T d β);
+        reason-is = λ T d β. sym (ap (λ (F : Formula). reason F T d β) is-not) ∙ u .reason-is T d β;
+      }
+        where
+          twice : (z : Bool) → not (not z) ≡ z
+          twice true = refl
+          twice false = refl
+
+    module _ (pool : List ℕ) (b : Bindings) where
+      pub under-ready : Ready rule pool b e → Ready rule pool b f
+      under-ready ready = record {
+        rule-accepted = ready .rule-accepted;
+        pool-accepted = ready .pool-accepted;
+        inside = u .inside;
+        depth-is = ready .depth-is ∙ sym (u .same-depth);
+        placed = ready .placed;
+      }
+
+      pub under-verdict : v ≡ verdictAt rule pool b e → w ≡ verdictAt rule pool b f
+      under-verdict = u .verdict-is (rows pool) (b .depth) (meant pool b)
+
+      pub under-marked : (m m′ : List ℕ) → m′ ≡ markIn pool (reasonAt rule pool b f) m → m′ ≡ markIn pool (reasonAt rule pool b e) m
+      under-marked m m′ h = h ∙ ap (λ (R : List Row). markIn pool R m) (u .reason-is (rows pool) (b .depth) (meant pool b))
+
 -- ---- an entry that has been read, with its verdict
 module _ (rule pool : List ℕ) (b : Bindings) (e : ℕ) (ready : Ready rule pool b e) (x : Entry) (x-is : x ≡ entryAt rule e) (v : Bool) (v-is : v ≡ verdictAt rule pool b e) where
-  -- kind 1
-  module _ (one : x .kind ≡ 1) where
-    pub not-side : not v ≡ verdictAt rule pool b (x .a)
-    unfolding meaning.holds
-    not-side = ap not (v-is ∙ ap (λ (f : Formula). meaning.holds f (rows pool) (b .depth) (meant pool b)) (not-formula rule e x (entry rule pool b e ready x x-is) one)) ∙ twice (verdictAt rule pool b (x .a))
-      where
-        twice : (z : Bool) → not (not z) ≡ z
-        twice true = refl
-        twice false = refl
-
-    pub not-marked : (m m′ : List ℕ) → m′ ≡ markIn pool (reasonAt rule pool b (x .a)) m → m′ ≡ markIn pool (reasonAt rule pool b e) m
-    unfolding reason
-    not-marked m m′ h = h ∙ ap (λ (f : Formula). markIn pool (reason f (rows pool) (b .depth) (meant pool b)) m) (sym (not-formula rule e x (entry rule pool b e ready x x-is) one))
-
   -- kinds 2 to 4
   module _ (not-one : x .kind ≡ 1 → ⊥) (low : x .kind < 5) where
     connected : v ≡ meaning.connect (connectiveOf (x .kind)) (verdictAt rule pool b (x .a)) (verdictAt rule pool b (x .b))
@@ -259,6 +292,30 @@ module _ (rule pool : List ℕ) (b : Bindings) (e i k : ℕ) (ready : ReadyRows 
     module _ (all : Bool·beq v (eqb (x .kind) 5) ≡ true) where
       pub all-settled : verdictFrom rule pool b e i k ≡ meaning.settled q
       all-settled = sym over-rows ∙ same-true v (eqb (x .kind) 5) all ∙ settled-is rule pool b e i k ready x x-is
+
+      pub once-verdict : eqb (entryAt rule e .kind) 5 ≡ verdictAt rule pool (bindAt b 0) (entryAt rule e .a) → (b′ : Bindings) → b′ ≡ bindAt b 0 → v ≡ verdictAt rule pool b′ (x .a)
+      once-verdict h b′ b-is =
+          same-true v (eqb (x .kind) 5) all ∙ ap (λ (z : Entry). eqb (z .kind) 5) x-is ∙ h ∙ sym (ap₂ (λ (z : Bindings) (w : Entry). verdictAt rule pool z (w .a)) b-is x-is)
+
+      -- the body's reason is the same at all rows
+      module _ (b′ : Bindings) (b-is : b′ ≡ bindAt b 0) (alike : (y : Row) → withBody rule pool b e y ≡ y ∷ reasonAt rule pool (bindAt b 0) (entryAt rule e .a))
+          (found : Bool) (found-is : found ≡ any (rangesAt pool b x) (rowsFrom pool i k)) (m m′ : List ℕ) (m-is : m′ ≡ markIn pool (select (rangesAt pool b x) (rowsFrom pool i k)) m) where
+        one-reason : concatMap (λ y. y ∷ reasonAt rule pool b′ (x .a)) (select (rangesAt pool b x) (rowsFrom pool i k)) ≡ reasonAt rule pool b e
+        one-reason =
+            ap₂ (λ (z : Bindings) (w : Entry). concatMap (λ y. y ∷ reasonAt rule pool z (w .a)) (select (rangesAt pool b w) (rowsFrom pool i k))) b-is x-is
+            ∙ ap (λ (F : Row → List Row). concatMap F (rangedFrom rule pool b e i k)) (sym (fun-ext alike))
+            ∙ sym (quantified-reason ∙ ap (concatMap (withBody rule pool b e)) (witnesses-all q (bodyAt rule pool b e) (rangedFrom rule pool b e i k) all-settled))
+
+        pub once-marked : found ≡ true → (m″ : List ℕ) → m″ ≡ markIn pool (reasonAt rule pool b′ (x .a)) m′ → m″ ≡ markIn pool (reasonAt rule pool b e) m
+        once-marked h m″ n-is =
+            n-is ∙ ap (markIn pool (reasonAt rule pool b′ (x .a))) m-is
+            ∙ mark-each (rangesAt pool b x) (rows pool) (rowsFrom pool i k) (reasonAt rule pool b′ (x .a)) m (sym found-is ∙ h)
+            ∙ ap (λ (R : List Row). markIn pool R m) one-reason
+
+        pub nowhere-marked : found ≡ false → m′ ≡ markIn pool (reasonAt rule pool b e) m
+        nowhere-marked h =
+            m-is ∙ mark-none-selected (rangesAt pool b x) (rows pool) (rowsFrom pool i k) (reasonAt rule pool b′ (x .a)) m (sym found-is ∙ h)
+            ∙ ap (λ (R : List Row). markIn pool R m) one-reason
 
       pub all-marked : (m m′ : List ℕ) → m′ ≡ markIn pool (reasonFrom rule pool b e i k) m → m′ ≡ markIn pool (reasonAt rule pool b e) m
       all-marked m m′ h =

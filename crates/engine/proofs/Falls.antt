@@ -17,10 +17,16 @@ rows-measure rule pool e k = (entryCount rule - (e + 1)) * (rowCount pool + 2) +
 pub below : {m n t : ℕ} → n ≡ t → m < n → m < t
 below e h = omega arith
 
+pub below-later : {k m n t : ℕ} → n ≡ t → m ≤ n → k < m → k < t
+below-later e h l = omega arith
+
 -- with n entries, e with the later entry a, and r rows
 module _ (n r e a : ℕ) where
   pub falls-child : e < a → a < n → (n - a) * (r + 2) < (n - e) * (r + 2)
   falls-child h k = mul-lt-mul-of-pos-right (omega arith) (omega arith)
+
+  pub falls-later : e ≤ a → (n - a) * (r + 2) ≤ (n - e) * (r + 2)
+  falls-later h = mul-le-mul-right (r + 2) (omega arith)
 
   pub falls-rows : (k : ℕ) → e < n → k ≤ r → (n - (e + 1)) * (r + 2) + k + 1 < (n - e) * (r + 2)
   falls-rows k h l =

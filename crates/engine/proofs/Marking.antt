@@ -1,35 +1,41 @@
 -- Marking rows one after the other is marking them all, and a single row is one byte. Assumes nothing.
 use Prim.Native.Nat.{ℕ, zero, suc, _+_, _<_, _≤_}
 use mathlib.Core.Path.{_≡_, refl, sym, ap, ap₂, _∙_}
-use mathlib.Core.Bool.{Bool, true, false, cond, _||_}
-use mathlib.Core.List.{List, [], _∷_, _++_, map}
+use mathlib.Core.Bool.{Bool, true, false, cond, _||_, false≢true}
+use mathlib.Core.List.{List, [], _∷_, _++_, map, append-nil}
 use native.Mathlib.Omega.{arith}
 use lib.ListN.{set, replicate}
 use lib.Dec.{eqb}
 use borrow.Author.Tests.{eq-eqb, ne-eqb, eqb-true}
-use Rattle.base.specs.Lists.{any}
-use Rattle.base.proofs.Bools.{either, and-left, and-right, and-both}
+use Rattle.base.specs.Lists.{put, select, any, concatMap}
+use Rattle.base.proofs.Bools.{either, and-left, and-right, and-both, or-left, or-right}
+use Rattle.base.proofs.Lists.{select-append}
 use Rattle.tables.specs.Words.{rowAt, rowCount, rows, rowsFrom}
 use Rattle.tables.specs.Rules.{one}
 use Rattle.tables.specs.Tables.{acceptedTable}
 use Rattle.tables.specs.declared.Row.{Row}
 use Rattle.tables.proofs.Accepted.{same-place}
 use Rattle.logic.specs.Marks.{sameRow, rowOf}
+use Rattle.logic.proofs.Walks.{rows-append}
 use Rattle.engine.specs.Places.{placeOf}
 use Rattle.engine.specs.Marked.{markRows, markIn, markAt}
 
 -- ---- two lists of rows
-any-append : (p : Row → Bool) (xs ys : List Row) (m : ℕ) → cond (any p (xs ++ ys)) 1 m ≡ cond (any p ys) 1 (cond (any p xs) 1 m)
-any-append p [] ys m = refl
-any-append p (x ∷ xs) ys m = go (p x) (any-append p xs ys m)
+any-or : (p : Row → Bool) (xs ys : List Row) → any p (xs ++ ys) ≡ (any p xs || any p ys)
+any-or p [] ys = refl
+any-or p (x ∷ xs) ys = ap (λ (b : Bool). p x || b) (any-or p xs ys) ∙ go (p x)
   where
-    same : (c : Bool) → _≡_ {A = ℕ} 1 (cond c 1 1)
-    same true = refl
-    same false = refl
+    go : (b : Bool) → (b || (any p xs || any p ys)) ≡ ((b || any p xs) || any p ys)
+    go true = refl
+    go false = refl
 
-    go : (b : Bool) → cond (any p (xs ++ ys)) 1 m ≡ cond (any p ys) 1 (cond (any p xs) 1 m) → cond (b || any p (xs ++ ys)) 1 m ≡ cond (any p ys) 1 (cond (b || any p xs) 1 m)
-    go true ih = same (any p ys)
-    go false ih = ih
+any-append : (p : Row → Bool) (xs ys : List Row) (m : ℕ) → cond (any p (xs ++ ys)) 1 m ≡ cond (any p ys) 1 (cond (any p xs) 1 m)
+any-append p xs ys m = ap (λ (b : Bool). cond b 1 m) (any-or p xs ys) ∙ go (any p xs) (any p ys)
+  where
+    go : (a b : Bool) → cond (a || b) 1 m ≡ cond b 1 (cond a 1 m)
+    go true true = refl
+    go true false = refl
+    go false b = refl
 
 pub mark-append : (T a b : List Row) (m : List ℕ) → markRows T (a ++ b) m ≡ markRows T b (markRows T a m)
 unfolding markRows
@@ -42,6 +48,49 @@ unfolding markRows
 mark-none [] m = refl
 mark-none (t ∷ T) [] = refl
 mark-none (t ∷ T) (x ∷ m) = ap (_∷_ x) (mark-none T m)
+
+mark-same : (A B : List Row) → ((t : Row) → any (sameRow t) A ≡ any (sameRow t) B) → (T : List Row) (m : List ℕ) → markRows T A m ≡ markRows T B m
+unfolding markRows
+mark-same A B h [] m = refl
+mark-same A B h (t ∷ T) [] = refl
+mark-same A B h (t ∷ T) (x ∷ m) = ap₂ _∷_ (ap (λ (b : Bool). cond b 1 x) (h t)) (mark-same A B h T m)
+
+-- ---- rows with one reason behind each
+each-any : (R : List Row) (p : Row → Bool) (x : Row) (xs : List Row) → any p (concatMap (λ r. r ∷ R) (x ∷ xs)) ≡ any p ((x ∷ xs) ++ R)
+each-any R p x [] = ap (any p) (append-nil (x ∷ R))
+each-any R p x (y ∷ ys) =
+    ap (λ (b : Bool). p x || b)
+    (any-or p R (concatMap (λ r. r ∷ R) (y ∷ ys)) ∙ ap (λ (b : Bool). any p R || b) (each-any R p y ys ∙ any-or p (y ∷ ys) R)
+    ∙ twice (any p R) (any p (y ∷ ys)) ∙ sym (any-or p (y ∷ ys) R))
+  where
+    twice : (r s : Bool) → (r || (s || r)) ≡ (s || r)
+    twice true true = refl
+    twice true false = refl
+    twice false s = refl
+
+module _ (p : Row → Bool) where
+  some-selected : (xs : List Row) → any p xs ≡ true → (y : Row) × (ys : List Row) × (select p xs ≡ y ∷ ys)
+  some-selected [] h = absurd (false≢true h)
+  some-selected (x ∷ xs) h = go (p x) h (some-selected xs)
+    where
+      go : (b : Bool) → (b || any p xs) ≡ true → (any p xs ≡ true → (y : Row) × (ys : List Row) × (select p xs ≡ y ∷ ys)) → (y : Row) × (ys : List Row) × (put b x (select p xs) ≡ y ∷ ys)
+      go true h k = (x, select p xs, refl)
+      go false h k = k h
+
+  none-selected : (xs : List Row) → any p xs ≡ false → select p xs ≡ []
+  none-selected [] h = refl
+  none-selected (x ∷ xs) h = rw (or-left (p x) (any p xs) h) (none-selected xs (or-right (p x) (any p xs) h))
+
+  -- the rows first, then the reason once
+  pub mark-each : (T xs R : List Row) (m : List ℕ) → any p xs ≡ true → markRows T R (markRows T (select p xs) m) ≡ markRows T (concatMap (λ r. r ∷ R) (select p xs)) m
+  mark-each T xs R m h =
+      sym (mark-append T (select p xs) R m) ∙ mark-same (select p xs ++ R) (concatMap (λ r. r ∷ R) (select p xs)) (λ t. same t (some-selected xs h)) T m
+    where
+      same : (t : Row) → (y : Row) × (ys : List Row) × (select p xs ≡ y ∷ ys) → any (sameRow t) (select p xs ++ R) ≡ any (sameRow t) (concatMap (λ r. r ∷ R) (select p xs))
+      same t (y, ys, e) = rw e (sym (each-any R (sameRow t) y ys))
+
+  pub mark-none-selected : (T xs R : List Row) (m : List ℕ) → any p xs ≡ false → markRows T (select p xs) m ≡ markRows T (concatMap (λ r. r ∷ R) (select p xs)) m
+  mark-none-selected T xs R m h = rw (none-selected xs h)
 
 -- ---- a single row
 module _ (pool : List ℕ) (ok : acceptedTable pool ≡ true) where
@@ -93,9 +142,38 @@ module _ (pool : List ℕ) (ok : acceptedTable pool ≡ true) where
   mark-place zero m h = sym (mark-none (rows pool) m)
   mark-place (suc j) m h = mark-row j m h
 
+  -- one row more, if it passes a test
+  module _ (p : Row → Bool) (i k : ℕ) (hit : Bool) (hit-is : hit ≡ p (rowAt pool (i + k))) where
+    pub any-more : (found : Bool) → found ≡ any p (rowsFrom pool i k) → (found || hit) ≡ any p (rowsFrom pool i (k + 1))
+    unfolding rowsFrom
+    any-more found f-is =
+        ap₂ _||_ f-is (hit-is ∙ last (p (rowAt pool (i + k)))) ∙ sym (any-or p (rowsFrom pool i k) (rowsFrom pool (i + k) 1)) ∙ ap (any p) (sym (rows-append pool i k 1))
+      where
+        last : (b : Bool) → b ≡ (b || false)
+        last true = refl
+        last false = refl
+
+    pub mark-more : i + k < rowCount pool → (m₀ m : List ℕ) → m ≡ markIn pool (select p (rowsFrom pool i k)) m₀
+        → cond hit (set m (i + k) 1) m ≡ markIn pool (select p (rowsFrom pool i (k + 1))) m₀
+    unfolding rowsFrom
+    mark-more l m₀ m m-is =
+        go hit (sym hit-is)
+        ∙ ap (markIn pool (select p (rowsFrom pool (i + k) 1))) m-is
+        ∙ sym (mark-append (rows pool) (select p (rowsFrom pool i k)) (select p (rowsFrom pool (i + k) 1)) m₀)
+        ∙ ap (λ (R : List Row). markIn pool R m₀) (sym (ap (select p) (rows-append pool i k 1) ∙ select-append p (rowsFrom pool i k) (rowsFrom pool (i + k) 1)))
+      where
+        go : (b : Bool) → p (rowAt pool (i + k)) ≡ b → cond b (set m (i + k) 1) m ≡ markIn pool (put (p (rowAt pool (i + k))) (rowAt pool (i + k)) []) m
+        go true e = rw e (mark-row (i + k) m l)
+        go false e = rw e (sym (mark-none (rows pool) m))
+
   -- a row and others behind it
   pub mark-first : (j : ℕ) (R : List Row) (m : List ℕ) → j < rowCount pool → markIn pool R (set m j 1) ≡ markIn pool (rowAt pool j ∷ R) m
   mark-first j R m h = ap (markIn pool R) (mark-row j m h) ∙ sym (mark-append (rows pool) (rowAt pool j ∷ []) R m)
+
+-- none of the rows yet
+pub no-rows : (pool : List ℕ) (p : Row → Bool) (i : ℕ) (m : List ℕ) → (false ≡ any p (rowsFrom pool i 0)) × (m ≡ markIn pool (select p (rowsFrom pool i 0)) m)
+unfolding rowsFrom
+no-rows pool p i m = (refl, sym (mark-none (rows pool) m))
 
 -- ---- on bytes that are 0
 pub mark-zeros : (t : List ℕ) (i k : ℕ) (R : List Row) (rest : List ℕ)

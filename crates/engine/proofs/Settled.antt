@@ -2,27 +2,30 @@
 use Prim.Native.Nat.{ℕ, zero, suc, _+_, _-_, _<_, _≤_}
 use mathlib.Core.Path.{_≡_, refl, sym, ap, ap₂, subst, fun-ext, _∙_}
 use mathlib.Core.Bool.{Bool, true, false, not, cond, _&&_, Bool·beq, true≢false, false≢true}
-use mathlib.Core.List.{List}
+use mathlib.Core.List.{List, [], _∷_, _++_, append-nil}
 use native.Mathlib.Omega.{arith}
 use lib.ListN.{getD, set}
 use lib.Seq.{getD-set-same, getD-set-other}
 use lib.Dec.{eqb}
-use borrow.Author.Tests.{eqb-true, eqb-false}
-use Rattle.base.specs.Lists.{select}
+use borrow.Author.Tests.{eqb-true, eqb-false, eq-eqb}
+use Rattle.base.specs.Lists.{select, concatMap}
 use Rattle.base.specs.Search.{first}
-use Rattle.base.proofs.Bools.{either}
+use Rattle.base.proofs.Bools.{either, and-left}
+use Rattle.base.proofs.Lists.{concatMap-append}
 use Rattle.tables.specs.Words.{rowAt, rowCount, rows, entryAt}
 use Rattle.tables.specs.Rules.{nestingLimit}
 use Rattle.tables.specs.declared.Row.{Row}
 use Rattle.tables.specs.declared.Entry.{Entry}
 use Rattle.logic.specs.Formulas.{Connective, and, or, implies, Quantifier, every, some, overOf, operandOf, formulaAt}
 use Rattle.logic.specs.Verdict as meaning
+use Rattle.logic.specs.Marks.{rowOf, rowsOf, leftDecides, rightDecides, because, witnesses, reason}
 use Rattle.logic.proofs.Folds.{fold-all}
 use Rattle.logic.proofs.Walks.{both-settled, both-decided, fold-append, fold-one}
+use Rattle.logic.proofs.Reasons.{witnesses-all}
 use Rattle.engine.specs.Places.{bindAt, placeOf, bindingsOf}
-use Rattle.engine.specs.Ready.{connectiveOf, quantifierOf, comparisonOf, Placed, meant, comparedAt, rangesAt, Ready, ReadyRows, rangedFrom}
-use Rattle.engine.specs.Marked.{sideFor}
-use Rattle.engine.specs.Settling.{Fits, CertainCompared, Certain, KnownParent, KnownRows, bodyWith, CertainRows, Settles}
+use Rattle.engine.specs.Ready.{connectiveOf, quantifierOf, comparisonOf, Placed, meant, comparedAt, rangesAt, Ready, verdictAt, ReadyRows, rangedFrom}
+use Rattle.engine.specs.Marked.{sideFor, reasonAt, withReason, withBody, reasonFrom}
+use Rattle.engine.specs.Settling.{Fits, CertainCompared, Certain, KnownParent, Steady, KnownRows, bodyWith, CertainRows, Settles}
 use Rattle.engine.specs.declared.bindings.Bindings.{Bindings}
 use Rattle.engine.proofs.Bound.{row-bind, depth-bind}
 use Rattle.engine.proofs.Opened.{not-formula, joined-formula, quantified-formula, compared-formula}
@@ -53,28 +56,38 @@ known-same pool b β f v h =
 -- ---- comparisons
 module _ (pool : List ℕ) (b : Bindings) (e : Entry) (want : Bool) where
   pub compared-unknown : CertainCompared pool b e want false
-  compared-unknown = record { sure = λ h. absurd (false≢true h) }
+  compared-unknown = record { sure = λ h. absurd (false≢true h); alike = λ h. absurd (false≢true h) }
 
   module _ (p : ℕ) (p-is : p ≡ getD (b .row) (e .a) 0) (known : p ≡ 0 → ⊥) (c : Bool) (c-is : c ≡ comparedAt pool b e) where
-    -- the right side's value is known too
-    known-values : ((β : meaning.Bindings) → Fits pool b β → meaning.valueOf β (operandOf (e .b) (e .c)) ≡ meaning.valueOf (meant pool b) (operandOf (e .b) (e .c)))
+    left-same : (β : meaning.Bindings) → Fits pool b β → β (e .a) ≡ meant pool b (e .a)
+    left-same β f = known-same pool b β f (e .a) (λ z. known (p-is ∙ z))
+
+    -- the right side is known too
+    known-values : ((β : meaning.Bindings) → Fits pool b β
+        → (meaning.valueOf β (operandOf (e .b) (e .c)) ≡ meaning.valueOf (meant pool b) (operandOf (e .b) (e .c)))
+        × (rowsOf β (operandOf (e .b) (e .c)) ≡ rowsOf (meant pool b) (operandOf (e .b) (e .c))))
         → CertainCompared pool b e want (Bool·beq c want)
     known-values right = record {
-      sure = λ h β f. ap₂ (meaning.compare (comparisonOf (e .kind))) (ap meaning.valueAt (known-same pool b β f (e .a) (λ z. known (p-is ∙ z)))) (right β f) ∙ sym c-is ∙ same-true c want h;
+      sure = λ h β f. ap₂ (meaning.compare (comparisonOf (e .kind))) (ap meaning.valueAt (left-same β f)) (right β f .0) ∙ sym c-is ∙ same-true c want h;
+      alike = λ h β f. ap₂ _++_ (ap rowOf (left-same β f)) (right β f .1);
     }
 
     pub compared-constant : (e .b ≡ 0 → ⊥) → CertainCompared pool b e want (Bool·beq c want)
     compared-constant h = known-values (λ β f. go (e .b) h β)
       where
-        go : (k : ℕ) → (k ≡ 0 → ⊥) → (β : meaning.Bindings) → meaning.valueOf β (operandOf k (e .c)) ≡ meaning.valueOf (meant pool b) (operandOf k (e .c))
+        go : (k : ℕ) → (k ≡ 0 → ⊥) → (β : meaning.Bindings)
+            → (meaning.valueOf β (operandOf k (e .c)) ≡ meaning.valueOf (meant pool b) (operandOf k (e .c))) × (rowsOf β (operandOf k (e .c)) ≡ rowsOf (meant pool b) (operandOf k (e .c)))
         go zero h β = absurd (h refl)
-        go (suc k) h β = refl
+        go (suc k) h β = (refl, refl)
 
     pub compared-variable : e .b ≡ 0 → (q : ℕ) → q ≡ getD (b .row) (e .c) 0 → (q ≡ 0 → ⊥) → CertainCompared pool b e want (Bool·beq c want)
     compared-variable h q q-is k = known-values (λ β f. go (e .b) h β f)
       where
-        go : (n : ℕ) → n ≡ 0 → (β : meaning.Bindings) → Fits pool b β → meaning.valueOf β (operandOf n (e .c)) ≡ meaning.valueOf (meant pool b) (operandOf n (e .c))
-        go zero h β f = ap meaning.valueAt (known-same pool b β f (e .c) (λ z. k (q-is ∙ z)))
+        go : (n : ℕ) → n ≡ 0 → (β : meaning.Bindings) → Fits pool b β
+            → (meaning.valueOf β (operandOf n (e .c)) ≡ meaning.valueOf (meant pool b) (operandOf n (e .c))) × (rowsOf β (operandOf n (e .c)) ≡ rowsOf (meant pool b) (operandOf n (e .c)))
+        go zero h β f =
+            let z : β (e .c) ≡ meant pool b (e .c) = known-same pool b β f (e .c) (λ z. k (q-is ∙ z)) in
+            (ap meaning.valueAt z, ap rowOf z)
         go (suc n) h β f = absurd (omega arith)
 
 -- ---- whether a quantifier's parent is known
@@ -83,6 +96,21 @@ parent-unknown b e = record { under = λ h. absurd (false≢true h); known = λ 
 
 pub parent-known : (b : Bindings) (e : Entry) (p : ℕ) (answer : Bool) → (e .b ≡ 0 → ⊥) → p ≡ getD (b .row) (e .b - 1) 0 → (p ≡ 0 → ⊥) → KnownParent b e answer
 parent-known b e p answer h p-is k = record { under = λ _. h; known = λ _ z. k (p-is ∙ z) }
+
+-- ---- whether a quantifier's reason is steady
+module _ (b : Bindings) (e : Entry) (want same : Bool) where
+  pub steady-not : Steady b e want same false
+  steady-not = record { settled = λ h. absurd (false≢true h); known = λ h. absurd (false≢true h) }
+
+  pub steady-unasked : not same ≡ true → Steady b e want same true
+  steady-unasked h = record { settled = λ _ t. absurd (false≢true (ap not (sym t) ∙ h)); known = λ _ t. absurd (false≢true (ap not (sym t) ∙ h)) }
+
+  module _ (all : Bool·beq want (eqb (e .kind) 5) ≡ true) where
+    pub steady-roots : e .b ≡ 0 → Steady b e want same true
+    steady-roots z = record { settled = λ _ _. all; known = λ _ _ n. absurd (n z) }
+
+    pub steady-children : (p : ℕ) → p ≡ getD (b .row) (e .b - 1) 0 → Steady b e want same (not (eqb p 0))
+    steady-children p p-is = record { settled = λ _ _. all; known = λ h _ _ z. true≢false (sym h ∙ ap not (eq-eqb p 0 (p-is ∙ z))) }
 
 -- ---- connectives
 module _ (k : ℕ) (want : Bool) where
@@ -101,6 +129,30 @@ module _ (k : ℕ) (want : Bool) where
       go false false true false h = (refl, refl)
       go false false false x h = absurd (true≢false h)
 
+  -- the reason where one side is enough and the left one is it
+  left-because : Bool·beq want (eqb k 2) ≡ false → (y : Bool) (R S : List Row) → because (connectiveOf k) (sideFor (connectiveOf k) want) y R S ≡ R
+  left-because h y R S = go (eqb k 2) (eqb k 3) want h
+    where
+      go : (p q w : Bool) → Bool·beq w p ≡ false → because (cond p and (cond q or implies)) (sideFor (cond p and (cond q or implies)) w) y R S ≡ R
+      go true q true h = absurd (true≢false h)
+      go true q false h = refl
+      go false true true h = refl
+      go false true false h = absurd (true≢false h)
+      go false false true h = refl
+      go false false false h = absurd (true≢false h)
+
+  -- the reason where both are needed
+  both-because : Bool·beq want (eqb k 2) ≡ true → (R S : List Row) → because (connectiveOf k) (sideFor (connectiveOf k) want) want R S ≡ R ++ S
+  both-because h R S = go (eqb k 2) (eqb k 3) want h
+    where
+      go : (p q w : Bool) → Bool·beq w p ≡ true → because (cond p and (cond q or implies)) (sideFor (cond p and (cond q or implies)) w) w R S ≡ R ++ S
+      go true q true h = refl
+      go true q false h = absurd (false≢true h)
+      go false true true h = absurd (false≢true h)
+      go false true false h = refl
+      go false false true h = absurd (false≢true h)
+      go false false false h = refl
+
   both-are-enough : meaning.connect (connectiveOf k) (sideFor (connectiveOf k) want) want ≡ want
   both-are-enough = go (connectiveOf k) want
     where
@@ -113,33 +165,43 @@ module _ (k : ℕ) (want : Bool) where
       go implies false = refl
 
 -- ---- an entry that has been read
-module _ (rule pool : List ℕ) (b : Bindings) (e : ℕ) (ready : Ready rule pool b e) (x : Entry) (x-is : x ≡ entryAt rule e) (want : Bool) where
-  pub certain-nothing : Certain rule pool b e want false
-  certain-nothing = record { sure = λ h. absurd (false≢true h) }
+module _ (rule pool : List ℕ) (b : Bindings) (e : ℕ) (ready : Ready rule pool b e) (x : Entry) (x-is : x ≡ entryAt rule e) (want same : Bool) where
+  pub certain-nothing : Certain rule pool b e want same false
+  certain-nothing = record { sure = λ h. absurd (false≢true h); alike = λ h. absurd (false≢true h) }
 
-  pub certain-not : x .kind ≡ 1 → (r : Bool) → Certain rule pool b (x .a) (not want) r → Certain rule pool b e want r
-  unfolding meaning.holds
-  certain-not h r c = record { sure = λ g β f. rw (not-formula rule e x (entry rule pool b e ready x x-is) h) (ap not (c .sure g β f) ∙ twice want) }
+  pub certain-not : x .kind ≡ 1 → (r : Bool) → Certain rule pool b (x .a) (not want) same r → Certain rule pool b e want same r
+  unfolding meaning.holds reason
+  certain-not h r c = record {
+    sure = λ g β f. rw (not-formula rule e x (entry rule pool b e ready x x-is) h) (ap not (c .sure g β f) ∙ twice want);
+    alike = λ g s β f. rw (not-formula rule e x (entry rule pool b e ready x x-is) h) (c .alike g s β f);
+  }
     where
       twice : (z : Bool) → not (not z) ≡ z
       twice true = refl
       twice false = refl
 
-  module _ (not-one : x .kind ≡ 1 → ⊥) (low : x .kind < 5) (s l : Bool) (s-is : s ≡ sideFor (connectiveOf (x .kind)) want) (left : Certain rule pool b (x .a) s l) where
-    -- the verdict with other bindings
+  module _ (not-one : x .kind ≡ 1 → ⊥) (low : x .kind < 5) (s l : Bool) (s-is : s ≡ sideFor (connectiveOf (x .kind)) want) (left : Certain rule pool b (x .a) s same l) where
+    -- the verdict and the reason with other bindings
     with-bindings : (β : meaning.Bindings) → meaning.holds (formulaAt rule e) (rows pool) (b .depth) β
         ≡ meaning.connect (connectiveOf (x .kind)) (meaning.holds (formulaAt rule (x .a)) (rows pool) (b .depth) β) (meaning.holds (formulaAt rule (x .b)) (rows pool) (b .depth) β)
     unfolding meaning.holds
     with-bindings β = rw (joined-formula rule e x (entry rule pool b e ready x x-is) (two rule pool b e ready x x-is not-one low) (omega arith))
 
+    reason-with : (β : meaning.Bindings) → reason (formulaAt rule e) (rows pool) (b .depth) β
+        ≡ because (connectiveOf (x .kind)) (meaning.holds (formulaAt rule (x .a)) (rows pool) (b .depth) β) (meaning.holds (formulaAt rule (x .b)) (rows pool) (b .depth) β)
+        (reason (formulaAt rule (x .a)) (rows pool) (b .depth) β) (reason (formulaAt rule (x .b)) (rows pool) (b .depth) β)
+    unfolding reason
+    reason-with β = rw (joined-formula rule e x (entry rule pool b e ready x x-is) (two rule pool b e ready x x-is not-one low) (omega arith))
+
     left-is : l ≡ true → (β : meaning.Bindings) → Fits pool b β → meaning.holds (formulaAt rule (x .a)) (rows pool) (b .depth) β ≡ sideFor (connectiveOf (x .kind)) want
     left-is h β f = left .sure h β f ∙ s-is
 
-    pub certain-left : Bool·beq l (Bool·beq want (eqb (x .kind) 2)) ≡ false → Certain rule pool b e want l
+    pub certain-left : Bool·beq l (Bool·beq want (eqb (x .kind) 2)) ≡ false → Certain rule pool b e want same l
     certain-left h = record {
       sure = λ g β f. with-bindings β
           ∙ ap (λ (z : Bool). meaning.connect (connectiveOf (x .kind)) z (meaning.holds (formulaAt rule (x .b)) (rows pool) (b .depth) β)) (left-is g β f)
           ∙ one-is-enough (x .kind) want (unlike l (Bool·beq want (eqb (x .kind) 2)) g h) (meaning.holds (formulaAt rule (x .b)) (rows pool) (b .depth) β) .1;
+      alike = λ g t β f. reason-left g β f ∙ left .alike g t β f ∙ sym (reason-left g (meant pool b) (fits-meant pool b));
     }
       where
         unlike : (a c : Bool) → a ≡ true → Bool·beq a c ≡ false → c ≡ false
@@ -150,80 +212,174 @@ module _ (rule pool : List ℕ) (b : Bindings) (e : ℕ) (ready : Ready rule poo
             turned false h = refl
         unlike false c g h = absurd (false≢true g)
 
-    pub certain-right : Bool·beq l (Bool·beq want (eqb (x .kind) 2)) ≡ true → (r : Bool) → Certain rule pool b (x .b) want r → Certain rule pool b e want r
-    certain-right h r c = record {
+        reason-left : l ≡ true → (β : meaning.Bindings) → Fits pool b β → reason (formulaAt rule e) (rows pool) (b .depth) β ≡ reason (formulaAt rule (x .a)) (rows pool) (b .depth) β
+        reason-left g β f =
+            reason-with β
+            ∙ ap (λ (z : Bool). because (connectiveOf (x .kind)) z (meaning.holds (formulaAt rule (x .b)) (rows pool) (b .depth) β) (reason (formulaAt rule (x .a)) (rows pool) (b .depth) β) (reason (formulaAt rule (x .b)) (rows pool) (b .depth) β)) (left-is g β f)
+            ∙ left-because (x .kind) want (unlike l (Bool·beq want (eqb (x .kind) 2)) g h) _ _ _
+
+    -- the right side is asked: where the reason is, only if the left side is certain
+    pub certain-right : Bool·beq l (Bool·beq want (eqb (x .kind) 2)) ≡ true → (same && not l) ≡ false → (r : Bool) → Certain rule pool b (x .b) want same r → Certain rule pool b e want same r
+    certain-right h o r c = record {
       sure = λ g β f. with-bindings β
           ∙ ap (meaning.connect (connectiveOf (x .kind)) (meaning.holds (formulaAt rule (x .a)) (rows pool) (b .depth) β)) (c .sure g β f)
           ∙ either (Bool·beq want (eqb (x .kind) 2))
           (λ z. ap (λ (y : Bool). meaning.connect (connectiveOf (x .kind)) y want) (left-is (same-true l (Bool·beq want (eqb (x .kind) 2)) h ∙ z) β f) ∙ both-are-enough (x .kind) want)
           (λ z. one-is-enough (x .kind) want z (meaning.holds (formulaAt rule (x .a)) (rows pool) (b .depth) β) .0);
+      alike = λ g t β f. reason-both g t β f ∙ ap₂ _++_ (left .alike (left-sure t) t β f) (c .alike g t β f) ∙ sym (reason-both g t (meant pool b) (fits-meant pool b));
     }
+      where
+        asked : (s l : Bool) → s ≡ true → (s && not l) ≡ false → l ≡ true
+        asked true true t o = refl
+        asked true false t o = absurd (true≢false o)
+        asked false l t o = absurd (false≢true t)
 
-  pub certain-compared : 7 ≤ x .kind → (r : Bool) → CertainCompared pool b x want r → Certain rule pool b e want r
-  unfolding meaning.holds
-  certain-compared h r c = record { sure = λ g β f. rw (compared-formula rule e x (entry rule pool b e ready x x-is) h) (c .sure g β f) }
+        left-sure : same ≡ true → l ≡ true
+        left-sure t = asked same l t o
+
+        reason-both : r ≡ true → same ≡ true → (β : meaning.Bindings) → Fits pool b β
+            → reason (formulaAt rule e) (rows pool) (b .depth) β ≡ reason (formulaAt rule (x .a)) (rows pool) (b .depth) β ++ reason (formulaAt rule (x .b)) (rows pool) (b .depth) β
+        reason-both g t β f =
+            reason-with β
+            ∙ ap₂ (λ (z w : Bool). because (connectiveOf (x .kind)) z w (reason (formulaAt rule (x .a)) (rows pool) (b .depth) β) (reason (formulaAt rule (x .b)) (rows pool) (b .depth) β)) (left-is (left-sure t) β f) (c .sure g β f)
+            ∙ both-because (x .kind) want (sym (same-true l (Bool·beq want (eqb (x .kind) 2)) h) ∙ left-sure t) _ _
+
+  pub certain-compared : 7 ≤ x .kind → (r : Bool) → CertainCompared pool b x want r → Certain rule pool b e want same r
+  unfolding meaning.holds reason
+  certain-compared h r c = record {
+    sure = λ g β f. rw (compared-formula rule e x (entry rule pool b e ready x x-is) h) (c .sure g β f);
+    alike = λ g t β f. rw (compared-formula rule e x (entry rule pool b e ready x x-is) h) (c .alike g β f);
+  }
 
 -- ---- a quantifier, with the rows unknown
 module _ (rule pool : List ℕ) (b : Bindings) (e i k : ℕ) (ready : ReadyRows rule pool b e i k) (x : Entry) (x-is : x ≡ entryAt rule e) where
-  -- the verdict with other bindings
+  -- the verdict and the reason with other bindings
   over-table : (β : meaning.Bindings) → meaning.holds (formulaAt rule e) (rows pool) (b .depth) β
       ≡ meaning.fold (quantifierOf (entryAt rule e .kind)) (bodyWith rule pool b e β) (select (meaning.ranges (overOf (entryAt rule e .b)) (entryAt rule e .c) β) (rows pool))
   unfolding meaning.holds
   over-table β = rw (quantified-formula rule e (entryAt rule e) (quantifier rule pool b e i k ready) (ready .over-four) (ready .below-seven))
 
-  -- its body, with one more variable bound
-  body-certain : (p : ℕ) (b′ : Bindings) → b′ ≡ bindAt b p → (want r : Bool) → Certain rule pool b′ (x .a) want r → r ≡ true → (β : meaning.Bindings) → Fits pool b β → (y : Row)
-      → ((j : ℕ) → p ≡ suc j → meaning.bound y ≡ meaning.bound (rowAt pool j)) → bodyWith rule pool b e β y ≡ want
-  body-certain p b′ b-is want r c h β f y g =
-      ap (λ (d : ℕ). meaning.holds (formulaAt rule (entryAt rule e .a)) (rows pool) d (meaning.bind (b .depth) (meaning.bound y) β))
-      (sym (ap (λ (z : Bindings). z .depth) b-is ∙ depth-bind pool b (ready .ready .placed) (room rule pool b e i k ready) p))
-      ∙ ap (λ (z : Entry). meaning.holds (formulaAt rule (z .a)) (rows pool) (b′ .depth) (meaning.bind (b .depth) (meaning.bound y) β)) (sym x-is)
-      ∙ c .sure h (meaning.bind (b .depth) (meaning.bound y) β)
-      (subst (λ (z : Bindings). Fits pool z (meaning.bind (b .depth) (meaning.bound y) β)) (sym b-is)
-      (fits-bind pool b (ready .ready .placed) (room rule pool b e i k ready) p (meaning.bound y) g β f))
+  reason-over-table : (β : meaning.Bindings) → reason (formulaAt rule e) (rows pool) (b .depth) β
+      ≡ concatMap (withReason rule pool b e β)
+      (witnesses (quantifierOf (entryAt rule e .kind)) (bodyWith rule pool b e β) (select (meaning.ranges (overOf (entryAt rule e .b)) (entryAt rule e .c) β) (rows pool)))
+  unfolding reason
+  reason-over-table β = rw (quantified-formula rule e (entryAt rule e) (quantifier rule pool b e i k ready) (ready .over-four) (ready .below-seven))
 
-  pub certain-all : (want : Bool) → Bool·beq want (eqb (x .kind) 5) ≡ true → (b′ : Bindings) → b′ ≡ bindAt b 0 → (r : Bool) → Certain rule pool b′ (x .a) want r → Certain rule pool b e want r
-  certain-all want h b′ b-is r c = record {
-    sure = λ g β f. over-table β
-        ∙ fold-all (quantifierOf (entryAt rule e .kind)) (bodyWith rule pool b e β) (select (meaning.ranges (overOf (entryAt rule e .b)) (entryAt rule e .c) β) (rows pool))
-        (λ y. body-certain 0 b′ b-is want r c g β f y (λ j z. absurd (omega arith)) ∙ want-is)
-        ∙ sym want-is;
-  }
+  -- its rows are the same with all bindings that fit, where its parent is known
+  same-rows : ((entryAt rule e .b ≡ 0 → ⊥) → getD (b .row) (entryAt rule e .b - 1) 0 ≡ 0 → ⊥) → (β : meaning.Bindings) → Fits pool b β
+      → select (meaning.ranges (overOf (entryAt rule e .b)) (entryAt rule e .c) β) (rows pool) ≡ rangedFrom rule pool b e 0 (rowCount pool)
+  same-rows h β f = ap (λ (p : Row → Bool). select p (rows pool)) (fun-ext (go (entryAt rule e .b) h))
+    where
+      go : (u : ℕ) → ((u ≡ 0 → ⊥) → getD (b .row) (u - 1) 0 ≡ 0 → ⊥) → (y : Row) → meaning.ranges (overOf u) (entryAt rule e .c) β y ≡ meaning.ranges (overOf u) (entryAt rule e .c) (meant pool b) y
+      go zero g y = refl
+      go (suc v) g y =
+          let z : suc v - 1 ≡ v = omega arith in
+          ap (λ (P : meaning.Place). meaning.hangs P y && meaning.named (entryAt rule e .c) y)
+          (known-same pool b β f v (λ q. g (λ s. omega arith) (ap (λ (n : ℕ). getD (b .row) n 0) z ∙ q)))
+
+  -- its body, with one more variable bound
+  module _ (p : ℕ) (b′ : Bindings) (b-is : b′ ≡ bindAt b p) (want same r : Bool) (c : Certain rule pool b′ (x .a) want same r) (h : r ≡ true) where
+    -- bindings that fit, with a row for the variable
+    fits-row : (β : meaning.Bindings) → Fits pool b β → (y : Row) → ((j : ℕ) → p ≡ suc j → meaning.bound y ≡ meaning.bound (rowAt pool j)) → Fits pool b′ (meaning.bind (b .depth) (meaning.bound y) β)
+    fits-row β f y g =
+        subst (λ (z : Bindings). Fits pool z (meaning.bind (b .depth) (meaning.bound y) β)) (sym b-is)
+        (fits-bind pool b (ready .ready .placed) (room rule pool b e i k ready) p (meaning.bound y) g β f)
+
+    depth-is : suc (b .depth) ≡ b′ .depth
+    depth-is = sym (ap (λ (z : Bindings). z .depth) b-is ∙ depth-bind pool b (ready .ready .placed) (room rule pool b e i k ready) p)
+
+    body-certain : (β : meaning.Bindings) → Fits pool b β → (y : Row) → ((j : ℕ) → p ≡ suc j → meaning.bound y ≡ meaning.bound (rowAt pool j)) → bodyWith rule pool b e β y ≡ want
+    body-certain β f y g =
+        ap (λ (d : ℕ). meaning.holds (formulaAt rule (entryAt rule e .a)) (rows pool) d (meaning.bind (b .depth) (meaning.bound y) β)) depth-is
+        ∙ ap (λ (z : Entry). meaning.holds (formulaAt rule (z .a)) (rows pool) (b′ .depth) (meaning.bind (b .depth) (meaning.bound y) β)) (sym x-is)
+        ∙ c .sure h (meaning.bind (b .depth) (meaning.bound y) β) (fits-row β f y g)
+
+    body-alike : same ≡ true → (β : meaning.Bindings) → Fits pool b β → (y : Row) → ((j : ℕ) → p ≡ suc j → meaning.bound y ≡ meaning.bound (rowAt pool j))
+        → withReason rule pool b e β y ≡ y ∷ reasonAt rule pool b′ (x .a)
+    body-alike t β f y g =
+        ap (λ (d : ℕ). y ∷ reason (formulaAt rule (entryAt rule e .a)) (rows pool) d (meaning.bind (b .depth) (meaning.bound y) β)) depth-is
+        ∙ ap (λ (z : Entry). y ∷ reason (formulaAt rule (z .a)) (rows pool) (b′ .depth) (meaning.bind (b .depth) (meaning.bound y) β)) (sym x-is)
+        ∙ ap (λ (R : List Row). y ∷ R) (c .alike h t (meaning.bind (b .depth) (meaning.bound y) β) (fits-row β f y g))
+
+    body-same : same ≡ true → (β : meaning.Bindings) → Fits pool b β → (y : Row) → ((j : ℕ) → p ≡ suc j → meaning.bound y ≡ meaning.bound (rowAt pool j))
+        → withReason rule pool b e β y ≡ withBody rule pool b e y
+    body-same t β f y g = body-alike t β f y g ∙ sym (body-alike t (meant pool b) (fits-meant pool b) y g)
+
+  -- the verdict where each body is certain of that of kind 5 true, kind 6 false
+  all-sure : (want same : Bool) → Bool·beq want (eqb (x .kind) 5) ≡ true → (b′ : Bindings) → b′ ≡ bindAt b 0 → (r : Bool) → Certain rule pool b′ (x .a) want same r
+      → r ≡ true → (β : meaning.Bindings) → Fits pool b β → meaning.holds (formulaAt rule e) (rows pool) (b .depth) β ≡ want
+  all-sure want same h b′ b-is r c g β f =
+      over-table β
+      ∙ fold-all (quantifierOf (entryAt rule e .kind)) (bodyWith rule pool b e β) (select (meaning.ranges (overOf (entryAt rule e .b)) (entryAt rule e .c) β) (rows pool))
+      (λ y. body-certain 0 b′ b-is want same r c g β f y (λ j z. absurd (omega arith)) ∙ want-is)
+      ∙ sym want-is
     where
       want-is : want ≡ meaning.settled (quantifierOf (entryAt rule e .kind))
       want-is = same-true want (eqb (x .kind) 5) h ∙ settled-is rule pool b e i k ready x x-is
 
-  pub settles-not : Settles rule pool b e false
-  settles-not = record { sure = λ h. absurd (false≢true h) }
+  -- the reason where no row decides and the rows are known
+  module _ (want same : Bool) (s : Bool) (steady : Steady b x want same s) (passed : not s ≡ false) where
+    go-on : s ≡ true
+    go-on = unturned s passed
+      where
+        unturned : (z : Bool) → not z ≡ false → z ≡ true
+        unturned true h = refl
+        unturned false h = absurd (true≢false h)
 
-  pub settles-all : (b′ : Bindings) → b′ ≡ bindAt b 0 → (r : Bool) → Certain rule pool b′ (x .a) (eqb (x .kind) 5) r → Settles rule pool b e r
-  settles-all b′ b-is r c = record {
-    sure = λ h. ap (λ (z : Entry). eqb (z .kind) 5) (sym x-is)
-        ∙ sym (certain-all (eqb (x .kind) 5) (same (eqb (x .kind) 5)) b′ b-is r c .sure h (meant pool b) (fits-meant pool b));
+    steady-reason : same ≡ true → (β : meaning.Bindings) → Fits pool b β → meaning.holds (formulaAt rule e) (rows pool) (b .depth) β ≡ want
+        → reason (formulaAt rule e) (rows pool) (b .depth) β ≡ concatMap (withReason rule pool b e β) (rangedFrom rule pool b e 0 (rowCount pool))
+    steady-reason t β f h =
+        reason-over-table β
+        ∙ ap (concatMap (withReason rule pool b e β))
+        (witnesses-all (quantifierOf (entryAt rule e .kind)) (bodyWith rule pool b e β) (select (meaning.ranges (overOf (entryAt rule e .b)) (entryAt rule e .c) β) (rows pool))
+        (sym (over-table β) ∙ h ∙ same-true want (eqb (x .kind) 5) (steady .settled go-on t) ∙ settled-is rule pool b e i k ready x x-is)
+        ∙ same-rows (subst (λ (z : Entry). (z .b ≡ 0 → ⊥) → getD (b .row) (z .b - 1) 0 ≡ 0 → ⊥) x-is (steady .known go-on t)) β f)
+
+    -- equal reasons over those rows are equal reasons of the entry
+    steady-alike : same ≡ true → (β : meaning.Bindings) → Fits pool b β → meaning.holds (formulaAt rule e) (rows pool) (b .depth) β ≡ want → verdictAt rule pool b e ≡ want
+        → concatMap (withReason rule pool b e β) (rangedFrom rule pool b e 0 (rowCount pool)) ≡ reasonFrom rule pool b e 0 (rowCount pool)
+        → reason (formulaAt rule e) (rows pool) (b .depth) β ≡ reasonAt rule pool b e
+    steady-alike t β f h g q = steady-reason t β f h ∙ q ∙ sym (steady-reason t (meant pool b) (fits-meant pool b) g)
+
+    pub certain-all : Bool·beq want (eqb (x .kind) 5) ≡ true → (b′ : Bindings) → b′ ≡ bindAt b 0 → (r : Bool) → Certain rule pool b′ (x .a) want same r → Certain rule pool b e want same r
+    certain-all h b′ b-is r c = record {
+      sure = all-sure want same h b′ b-is r c;
+      alike = λ g t β f. steady-alike t β f (all-sure want same h b′ b-is r c g β f) (all-sure want same h b′ b-is r c g (meant pool b) (fits-meant pool b))
+          (ap (λ (F : Row → List Row). concatMap F (rangedFrom rule pool b e 0 (rowCount pool))) (fun-ext (λ y. body-same 0 b′ b-is want same r c g t β f y (λ j z. absurd (omega arith)))));
+    }
+
+  pub settles-not : (same : Bool) → Settles rule pool b e same false
+  settles-not same = record { sure = λ h. absurd (false≢true h); body = λ h. absurd (false≢true h); alike = λ h. absurd (false≢true h) }
+
+  pub settles-all : (same : Bool) (b′ : Bindings) → b′ ≡ bindAt b 0 → (r : Bool) → Certain rule pool b′ (x .a) (eqb (x .kind) 5) same r → Settles rule pool b e same r
+  settles-all same b′ b-is r c = record {
+    sure = λ h. ap (λ (z : Entry). eqb (z .kind) 5) (sym x-is) ∙ sym (all-sure (eqb (x .kind) 5) same (equal (eqb (x .kind) 5)) b′ b-is r c h (meant pool b) (fits-meant pool b));
+    body = λ h. ap (λ (z : Entry). eqb (z .kind) 5) (sym x-is) ∙ sym (c .sure h (meant pool b′) (fits-meant pool b′)) ∙ ap₂ (λ (z : Bindings) (w : Entry). verdictAt rule pool z (w .a)) b-is x-is;
+    alike = λ h t y. body-alike 0 b′ b-is (eqb (x .kind) 5) same r c h t (meant pool b) (fits-meant pool b) y (λ j z. absurd (omega arith))
+        ∙ ap₂ (λ (z : Bindings) (w : Entry). y ∷ reasonAt rule pool z (w .a)) b-is x-is;
   }
     where
-      same : (z : Bool) → Bool·beq z z ≡ true
-      same true = refl
-      same false = refl
+      equal : (z : Bool) → Bool·beq z z ≡ true
+      equal true = refl
+      equal false = refl
 
 -- ---- a quantifier, with its rows known
-module _ (rule pool : List ℕ) (b : Bindings) (e i k : ℕ) (ready : KnownRows rule pool b e i k) (x : Entry) (x-is : x ≡ entryAt rule e) (want : Bool) where
-  same-rows : (β : meaning.Bindings) → Fits pool b β → (y : Row) → meaning.ranges (overOf (entryAt rule e .b)) (entryAt rule e .c) β y ≡ rangesAt pool b (entryAt rule e) y
-  same-rows β f y = go (entryAt rule e .b) (ready .under) (ready .known)
-    where
-      go : (u : ℕ) → (u ≡ 0 → ⊥) → (getD (b .row) (u - 1) 0 ≡ 0 → ⊥) → meaning.ranges (overOf u) (entryAt rule e .c) β y ≡ meaning.ranges (overOf u) (entryAt rule e .c) (meant pool b) y
-      go zero h g = absurd (h refl)
-      go (suc v) h g =
-          let z : suc v - 1 ≡ v = omega arith in
-          ap (λ (P : meaning.Place). meaning.hangs P y && meaning.named (entryAt rule e .c) y) (known-same pool b β f v (λ q. g (ap (λ (n : ℕ). getD (b .row) n 0) z ∙ q)))
-
-  pub certain-scan : rangedFrom rule pool b e i k ≡ rangedFrom rule pool b e 0 (rowCount pool) → (r : Bool) → CertainRows rule pool b e want i k r → Certain rule pool b e want r
-  certain-scan span r c = record {
-    sure = λ g β f. over-table rule pool b e i k (ready .ready) x x-is β
-        ∙ ap (λ (p : Row → Bool). meaning.fold (quantifierOf (entryAt rule e .kind)) (bodyWith rule pool b e β) (select p (rows pool))) (fun-ext (same-rows β f))
-        ∙ ap (meaning.fold (quantifierOf (entryAt rule e .kind)) (bodyWith rule pool b e β)) (sym span)
-        ∙ c .sure g β f;
+module _ (rule pool : List ℕ) (b : Bindings) (e i k : ℕ) (ready : KnownRows rule pool b e i k) (x : Entry) (x-is : x ≡ entryAt rule e) (want same : Bool) where
+  pub certain-scan : rangedFrom rule pool b e i k ≡ rangedFrom rule pool b e 0 (rowCount pool) → (s : Bool) → Steady b x want same s → not s ≡ false → (r : Bool)
+      → CertainRows rule pool b e want same i k r → Certain rule pool b e want same r
+  certain-scan span s steady passed r c = record {
+    sure = scan-sure;
+    alike = λ g t β f. steady-alike rule pool b e i k (ready .ready) x x-is want same s steady passed t β f (scan-sure g β f) (scan-sure g (meant pool b) (fits-meant pool b))
+        (ap (concatMap (withReason rule pool b e β)) (sym span)
+        ∙ c .alike g t (subst (λ (z : Entry). Bool·beq want (eqb (z .kind) 5) ≡ true) x-is (steady .settled (go-on rule pool b e i k (ready .ready) x x-is want same s steady passed) t)) β f
+        ∙ ap (concatMap (withBody rule pool b e)) span);
   }
+    where
+      scan-sure : r ≡ true → (β : meaning.Bindings) → Fits pool b β → meaning.holds (formulaAt rule e) (rows pool) (b .depth) β ≡ want
+      scan-sure g β f =
+          over-table rule pool b e i k (ready .ready) x x-is β
+          ∙ ap (meaning.fold (quantifierOf (entryAt rule e .kind)) (bodyWith rule pool b e β)) (same-rows rule pool b e i k (ready .ready) x x-is (λ _. ready .known) β f ∙ sym span)
+          ∙ c .sure g β f
 
   all-is : Bool·beq want (eqb (x .kind) 5) ≡ true → want ≡ meaning.settled (quantifierOf (entryAt rule e .kind))
   all-is h = same-true want (eqb (x .kind) 5) h ∙ settled-is rule pool b e i k (ready .ready) x x-is
@@ -231,13 +387,21 @@ module _ (rule pool : List ℕ) (b : Bindings) (e i k : ℕ) (ready : KnownRows 
   some-is : Bool·beq want (eqb (x .kind) 5) ≡ false → want ≡ meaning.settled (quantifierOf (entryAt rule e .kind)) → ⊥
   some-is h z = same-false want (eqb (x .kind) 5) h (z ∙ sym (settled-is rule pool b e i k (ready .ready) x x-is))
 
-  module _ (r : ℕ) (r-is : r ≡ i + first (λ (j : ℕ). rangesAt pool b x (rowAt pool (i + j))) k) where
-    pub scan-none : i + k - r ≡ 0 → CertainRows rule pool b e want i k (Bool·beq want (eqb (x .kind) 5))
-    scan-none h = record {
-      sure = λ g β f. ap (meaning.fold (quantifierOf (entryAt rule e .kind)) (bodyWith rule pool b e β)) (ranged-none rule pool b e i k (ready .ready) x x-is r r-is h) ∙ sym (all-is g);
-    }
+  -- none of the rows decides, as the entry that was read says
+  all-read : Bool·beq want (eqb (entryAt rule e .kind) 5) ≡ true → Bool·beq want (eqb (x .kind) 5) ≡ true
+  all-read h = ap (λ (z : Entry). Bool·beq want (eqb (z .kind) 5)) x-is ∙ h
 
-    module _ (j : ℕ) (h : j ≤ i + k - r) (l : Bool) (left : CertainRows rule pool b e want r j l) where
+  module _ (r : ℕ) (r-is : r ≡ i + first (λ (j : ℕ). rangesAt pool b x (rowAt pool (i + j))) k) where
+    pub scan-none : i + k - r ≡ 0 → CertainRows rule pool b e want same i k (Bool·beq want (eqb (x .kind) 5))
+    scan-none h = record {
+      sure = λ g β f. ap (meaning.fold (quantifierOf (entryAt rule e .kind)) (bodyWith rule pool b e β)) none-ranged ∙ sym (all-is g);
+      alike = λ g t a β f. ap (concatMap (withReason rule pool b e β)) none-ranged ∙ sym (ap (concatMap (withBody rule pool b e)) none-ranged);
+    }
+      where
+        none-ranged : rangedFrom rule pool b e i k ≡ []
+        none-ranged = ranged-none rule pool b e i k (ready .ready) x x-is r r-is h
+
+    module _ (j : ℕ) (h : j ≤ i + k - r) (l : Bool) (left : CertainRows rule pool b e want same r j l) where
       halves : (β : meaning.Bindings) → meaning.fold (quantifierOf (entryAt rule e .kind)) (bodyWith rule pool b e β) (rangedFrom rule pool b e i k)
           ≡ meaning.both (quantifierOf (entryAt rule e .kind)) (meaning.fold (quantifierOf (entryAt rule e .kind)) (bodyWith rule pool b e β) (rangedFrom rule pool b e r j))
           (meaning.fold (quantifierOf (entryAt rule e .kind)) (bodyWith rule pool b e β) (rangedFrom rule pool b e (r + j) (i + k - r - j)))
@@ -245,7 +409,13 @@ module _ (rule pool : List ℕ) (b : Bindings) (e i k : ℕ) (ready : KnownRows 
           ap (meaning.fold (quantifierOf (entryAt rule e .kind)) (bodyWith rule pool b e β)) (ranged-halves rule pool b e i k (ready .ready) x x-is r r-is j h)
           ∙ fold-append (quantifierOf (entryAt rule e .kind)) (bodyWith rule pool b e β) (rangedFrom rule pool b e r j) (rangedFrom rule pool b e (r + j) (i + k - r - j))
 
-      pub scan-left : Bool·beq l (Bool·beq want (eqb (x .kind) 5)) ≡ false → CertainRows rule pool b e want i k l
+      reason-halves : (β : meaning.Bindings) → concatMap (withReason rule pool b e β) (rangedFrom rule pool b e i k)
+          ≡ concatMap (withReason rule pool b e β) (rangedFrom rule pool b e r j) ++ concatMap (withReason rule pool b e β) (rangedFrom rule pool b e (r + j) (i + k - r - j))
+      reason-halves β =
+          ap (concatMap (withReason rule pool b e β)) (ranged-halves rule pool b e i k (ready .ready) x x-is r r-is j h)
+          ∙ concatMap-append (withReason rule pool b e β) (rangedFrom rule pool b e r j) (rangedFrom rule pool b e (r + j) (i + k - r - j))
+
+      pub scan-left : Bool·beq l (Bool·beq want (eqb (x .kind) 5)) ≡ false → CertainRows rule pool b e want same i k l
       scan-left d = record {
         sure = λ g β f. halves β
             ∙ both-decided (quantifierOf (entryAt rule e .kind)) _ (meaning.fold (quantifierOf (entryAt rule e .kind)) (bodyWith rule pool b e β) (rangedFrom rule pool b e (r + j) (i + k - r - j)))
@@ -253,15 +423,19 @@ module _ (rule pool : List ℕ) (b : Bindings) (e i k : ℕ) (ready : KnownRows 
             (λ q. same-false l (Bool·beq want (eqb (x .kind) 5)) d (g ∙ sym q))
             (λ q. some-is q (sym (left .sure g β f) ∙ z)))
             ∙ left .sure g β f;
+        alike = λ g t a. absurd (same-false l (Bool·beq want (eqb (x .kind) 5)) d (g ∙ sym (all-read a)));
       }
 
-      pub scan-right : Bool·beq l (Bool·beq want (eqb (x .kind) 5)) ≡ true → (v : Bool) → CertainRows rule pool b e want (r + j) (i + k - r - j) v → CertainRows rule pool b e want i k v
+      pub scan-right : Bool·beq l (Bool·beq want (eqb (x .kind) 5)) ≡ true → (v : Bool) → CertainRows rule pool b e want same (r + j) (i + k - r - j) v → CertainRows rule pool b e want same i k v
       scan-right d v c = record {
         sure = λ g β f. halves β
             ∙ ap (meaning.both (quantifierOf (entryAt rule e .kind)) (meaning.fold (quantifierOf (entryAt rule e .kind)) (bodyWith rule pool b e β) (rangedFrom rule pool b e r j))) (c .sure g β f)
             ∙ either (Bool·beq want (eqb (x .kind) 5))
             (λ q. both-settled (quantifierOf (entryAt rule e .kind)) _ want (left .sure (same-true l (Bool·beq want (eqb (x .kind) 5)) d ∙ q) β f ∙ all-is q))
             (λ q. second-decides (quantifierOf (entryAt rule e .kind)) (meaning.fold (quantifierOf (entryAt rule e .kind)) (bodyWith rule pool b e β) (rangedFrom rule pool b e r j)) want (some-is q));
+        alike = λ g t a β f. reason-halves β
+            ∙ ap₂ _++_ (left .alike (same-true l (Bool·beq want (eqb (x .kind) 5)) d ∙ all-read a) t a β f) (c .alike g t a β f)
+            ∙ sym (reason-halves (meant pool b));
       }
         where
           second-decides : (q : Quantifier) (y w : Bool) → (w ≡ meaning.settled q → ⊥) → meaning.both q y w ≡ w
@@ -272,13 +446,21 @@ module _ (rule pool : List ℕ) (b : Bindings) (e i k : ℕ) (ready : KnownRows 
           second-decides some false true n = refl
           second-decides some y false n = absurd (n refl)
 
-    pub scan-one : i + k - r ≡ 1 → (b′ : Bindings) → b′ ≡ bindAt b (r + 1) → (v : Bool) → Certain rule pool b′ (x .a) want v → CertainRows rule pool b e want i k v
+    pub scan-one : i + k - r ≡ 1 → (b′ : Bindings) → b′ ≡ bindAt b (r + 1) → (v : Bool) → Certain rule pool b′ (x .a) want same v → CertainRows rule pool b e want same i k v
     scan-one h b′ b-is v c = record {
-      sure = λ g β f. ap (meaning.fold (quantifierOf (entryAt rule e .kind)) (bodyWith rule pool b e β)) (ranged-one rule pool b e i k (ready .ready) x x-is r r-is h)
+      sure = λ g β f. ap (meaning.fold (quantifierOf (entryAt rule e .kind)) (bodyWith rule pool b e β)) one-ranged
           ∙ fold-one (quantifierOf (entryAt rule e .kind)) (bodyWith rule pool b e β) (rowAt pool r)
-          ∙ body-certain rule pool b e i k (ready .ready) x x-is (r + 1) b′ b-is want v c g β f (rowAt pool r)
-          (λ j z. ap (λ (n : ℕ). meaning.bound (rowAt pool n)) (let q : r ≡ j = omega arith in q));
+          ∙ body-certain rule pool b e i k (ready .ready) x x-is (r + 1) b′ b-is want same v c g β f (rowAt pool r) this-row;
+      alike = λ g t a β f. ap (concatMap (withReason rule pool b e β)) one-ranged
+          ∙ ap (λ (R : List Row). R ++ []) (body-same rule pool b e i k (ready .ready) x x-is (r + 1) b′ b-is want same v c g t β f (rowAt pool r) this-row)
+          ∙ sym (ap (concatMap (withBody rule pool b e)) one-ranged);
     }
+      where
+        one-ranged : rangedFrom rule pool b e i k ≡ rowAt pool r ∷ []
+        one-ranged = ranged-one rule pool b e i k (ready .ready) x x-is r r-is h
+
+        this-row : (j : ℕ) → r + 1 ≡ suc j → meaning.bound (rowAt pool r) ≡ meaning.bound (rowAt pool j)
+        this-row j z = ap (λ (n : ℕ). meaning.bound (rowAt pool n)) (let q : r ≡ j = omega arith in q)
 
 -- ---- what the scan of known rows rests on
 pub known-rows : (rule pool : List ℕ) (b : Bindings) (e i k : ℕ) → ReadyRows rule pool b e i k → (x : Entry) → x ≡ entryAt rule e → (a : Bool) → KnownParent b x a → a ≡ true → KnownRows rule pool b e i k

@@ -1,11 +1,13 @@
 -- What the private functions that mark rows promise. A reader of the public contracts need not believe it. Assumes nothing.
-use Prim.Native.Nat.{ℕ, zero, suc}
+use Prim.Native.Nat.{ℕ, zero, suc, _<_, _≤_}
+use mathlib.Core.Path.{_≡_}
 use mathlib.Core.Bool.{Bool, not, cond, _&&_}
 use mathlib.Core.List.{List, [], _∷_}
 use lib.ListN.{getD, set}
 use lib.Dec.{eqb}
 use Rattle.base.specs.Lists.{any, concatMap}
-use Rattle.tables.specs.Words.{rowAt, rows, entryAt}
+use Rattle.tables.specs.Words.{rowAt, rows, entryAt, entryCount}
+use Rattle.tables.specs.Rules.{around}
 use Rattle.tables.specs.declared.Row.{Row}
 use Rattle.tables.specs.declared.Entry.{Entry}
 use Rattle.logic.specs.Formulas.{Connective, and, or, implies, formulaAt}
@@ -43,9 +45,12 @@ sideFor and v = v
 sideFor or v = v
 sideFor implies v = not v
 
--- a row and its body's reason
+-- a row and its body's reason, with any bindings
+abbrev pub withReason : List ℕ → List ℕ → Bindings → ℕ → meaning.Bindings → Row → List Row
+withReason rule pool b e β r = r ∷ reason (formulaAt rule (entryAt rule e .a)) (rows pool) (suc (b .depth)) (meaning.bind (b .depth) (meaning.bound r) β)
+
 abbrev pub withBody : List ℕ → List ℕ → Bindings → ℕ → Row → List Row
-withBody rule pool b e r = r ∷ reason (formulaAt rule (entryAt rule e .a)) (rows pool) (suc (b .depth)) (meaning.bind (b .depth) (meaning.bound r) (meant pool b))
+withBody rule pool b e r = withReason rule pool b e (meant pool b) r
 
 -- those of each row ranged over, among k rows from row i on
 abbrev pub reasonFrom : List ℕ → List ℕ → Bindings → ℕ → ℕ → ℕ → List Row
@@ -54,3 +59,11 @@ reasonFrom rule pool b e i k = concatMap (withBody rule pool b e) (rangedFrom ru
 -- row j is ranged over and decides
 abbrev pub decidesAt : List ℕ → List ℕ → Bindings → ℕ → ℕ → Bool
 decidesAt rule pool b e j = rangesAt pool b (entryAt rule e) (rowAt pool j) && decides (quantifierOf (entryAt rule e .kind)) (bodyAt rule pool b e (rowAt pool j))
+
+-- entry f with verdict w stands under entry e with verdict v: they are alike but for nots
+pub record Under (rule : List ℕ) (e : ℕ) (v : Bool) (f : ℕ) (w : Bool) : Type 0 where
+  pub inside : f < entryCount rule
+  pub later : e ≤ f
+  pub same-depth : around rule f ≡ around rule e
+  pub verdict-is : (T : List Row) (d : ℕ) (β : meaning.Bindings) → v ≡ meaning.holds (formulaAt rule e) T d β → w ≡ meaning.holds (formulaAt rule f) T d β
+  pub reason-is : (T : List Row) (d : ℕ) (β : meaning.Bindings) → reason (formulaAt rule f) T d β ≡ reason (formulaAt rule e) T d β

@@ -1,4 +1,5 @@
-// What is certain of an entry while some variables are unknown: their place is nothing. It settles a quantifier before its rows are walked.
+// What is certain of an entry while some variables are unknown: their place is nothing. It settles a quantifier before its rows are
+// walked, and tells a body whose reason is the same at all of them.
 use super::bindings::Bindings;
 use super::comparisons::compared;
 use super::connectives::side;
@@ -12,7 +13,8 @@ use tables::Entry;
 ghost use mathlib.Core.Path.{_≡_};
 ghost use Prim.Native.Nat.{_<_, _≤_};
 ghost use Rattle.engine.specs.Ready.{Placed, Ready, ReadyRows};
-ghost use Rattle.engine.specs.Settling.{CertainCompared, KnownParent, Certain, CertainRows, KnownRows, Settles};
+ghost use Rattle.engine.specs.Settling.{CertainCompared, KnownParent, Steady, Certain, CertainRows, KnownRows, Settles};
+ghost use Rattle.tables.specs.Words.{rowCount};
 
 // Whether a comparison has the wanted verdict whatever rows the unknown variables have.
 fn sure_compared(pool: &[u32], b: Bindings, e: Entry, want: bool) -> bool
@@ -35,7 +37,17 @@ fn sure_compared(pool: &[u32], b: Bindings, e: Entry, want: bool) -> bool
     compared(pool, b, e) == want
 }
 
-// Whether the rows that a quantifier ranges over are known, and few enough to be read ahead: the device has no 64 rows behind the parent.
+// Whether the device of the row at a place has fewer than 64 rows behind it.
+fn is_short(pool: &[u32], place: usize) -> bool
+    requires { ⌜ (0 < place) × (place ≤ rowCount (now pool)) ⌝ }
+{
+    if row_count(pool) < place + 64 {
+        return true;
+    }
+    row_at(pool, place + 63).device != row_at(pool, place - 1).device
+}
+
+// Whether the rows that a quantifier ranges over are known, and few enough to be read ahead.
 fn reads_ahead(pool: &[u32], b: Bindings, e: Entry, effort: usize) -> bool
     requires { ⌜ Placed (now pool) b ⌝ }
     requires { ⌜ e .b ≤ 8 ⌝ }
@@ -52,38 +64,67 @@ fn reads_ahead(pool: &[u32], b: Bindings, e: Entry, effort: usize) -> bool
     if effort == 0 {
         return false;
     }
-    if row_count(pool) < place + 64 {
-        return true;
-    }
-    row_at(pool, place + 63).device != row_at(pool, place - 1).device
+    is_short(pool, place)
 }
 
-// Whether an entry has the wanted verdict whatever rows the unknown variables have. No is always allowed, so `effort` is free: a walk
-// of known rows leaves half of it to each body, and with 1 no walk stands inside another.
-fn sure(rule: &[u32], pool: &[u32], b: Bindings, entry: usize, want: bool, effort: usize) -> bool
+// If one reason is asked: whether, with the wanted verdict, it is every row that a quantifier ranges over, and these rows are known.
+fn is_steady(b: Bindings, e: Entry, want: bool, same: bool) -> bool
+    requires { ⌜ e .b ≤ 8 ⌝ }
+    ensures { λ r. ⌜ Steady b e want same r ⌝ }
+{
+    if !same {
+        return true;
+    }
+    if want == (e.kind == 5) {
+        let under = e.b as usize;
+        if under == 0 {
+            return true;
+        }
+        return place_of(b, under - 1) != 0;
+    }
+    false
+}
+
+// Whether an entry has the wanted verdict whatever rows the unknown variables have, and, if `same` is asked, one reason. No is always
+// allowed, so `effort` is free: a walk of known rows leaves half of it to each body, and with 1 no walk stands inside another.
+fn sure(
+    rule: &[u32],
+    pool: &[u32],
+    b: Bindings,
+    entry: usize,
+    want: bool,
+    same: bool,
+    effort: usize,
+) -> bool
     requires { ⌜ Ready (now rule) (now pool) b entry ⌝ }
-    ensures { λ r. ⌜ Certain (now (rule .entry)) (now (pool .entry)) b entry want r ⌝ }
+    ensures { λ r. ⌜ Certain (now (rule .entry)) (now (pool .entry)) b entry want same r ⌝ }
 {
     let e = entry_at(rule, entry);
     let a = e.a as usize;
     if e.kind == 1 {
-        return sure(rule, pool, b, a, !want, effort);
+        return sure(rule, pool, b, a, !want, same, effort);
     }
     if e.kind < 5 {
-        let left = sure(rule, pool, b, a, side(e.kind, want), effort);
+        let left = sure(rule, pool, b, a, side(e.kind, want), same, effort);
         let both = want == (e.kind == 2);
         if left == both {
-            return sure(rule, pool, b, e.b as usize, want, effort);
+            if same & !left {
+                return false;
+            }
+            return sure(rule, pool, b, e.b as usize, want, same, effort);
         }
         return left;
     }
     if e.kind < 7 {
+        if !is_steady(b, e, want, same) {
+            return false;
+        }
         if reads_ahead(pool, b, e, effort) {
             let r = run_of(pool, b, e);
-            return scan(rule, pool, b, entry, want, effort, r.start, r.rows);
+            return scan(rule, pool, b, entry, want, same, effort, r.start, r.rows);
         }
         if want == (e.kind == 5) {
-            return sure(rule, pool, b.bind(0), a, want, effort);
+            return sure(rule, pool, b.bind(0), a, want, same, effort);
         }
         return false;
     }
@@ -97,12 +138,13 @@ fn scan(
     b: Bindings,
     entry: usize,
     want: bool,
+    same: bool,
     effort: usize,
     row: usize,
     rows: usize,
 ) -> bool
     requires { ⌜ KnownRows (now rule) (now pool) b entry row rows ⌝ }
-    ensures { λ r. ⌜ CertainRows (now (rule .entry)) (now (pool .entry)) b entry want row rows r ⌝ }
+    ensures { λ r. ⌜ CertainRows (now (rule .entry)) (now (pool .entry)) b entry want same row rows r ⌝ }
 {
     let e = entry_at(rule, entry);
     let all = want == (e.kind == 5);
@@ -113,7 +155,7 @@ fn scan(
     }
     if 1 < left {
         let half = left / 2;
-        let known = scan(rule, pool, b, entry, want, effort, first, half);
+        let known = scan(rule, pool, b, entry, want, same, effort, first, half);
         if known == all {
             return scan(
                 rule,
@@ -121,6 +163,7 @@ fn scan(
                 b,
                 entry,
                 want,
+                same,
                 effort,
                 first + half,
                 left - half,
@@ -134,21 +177,45 @@ fn scan(
         b.bind(first + 1),
         e.a as usize,
         want,
+        same,
         effort / 2,
     )
 }
 
-// Whether a quantifier over roots inside another one is settled before its rows are walked.
-pub(crate) fn settled_before(rule: &[u32], pool: &[u32], b: Bindings, entry: usize) -> bool
+// Whether a quantifier's rows may be many and do not hang on the innermost variable, so that settling it at once may pay.
+fn is_wide(pool: &[u32], b: Bindings, e: Entry) -> bool
+    requires { ⌜ Placed (now pool) b ⌝ }
+    requires { ⌜ e .b ≤ 8 ⌝ }
+{
+    let under = e.b as usize;
+    if under == b.depth {
+        return false;
+    }
+    if under == 0 {
+        return true;
+    }
+    let place = place_of(b, under - 1);
+    if place == 0 {
+        return false;
+    }
+    !is_short(pool, place)
+}
+
+// Whether a quantifier is settled before its rows are walked, and, if `same` is asked, its body has one reason at all of them: the one
+// that it has while the row is unknown.
+pub(crate) fn settled_before(
+    rule: &[u32],
+    pool: &[u32],
+    b: Bindings,
+    entry: usize,
+    same: bool,
+) -> bool
     requires { ⌜ ReadyRows (now rule) (now pool) b entry 0 0 ⌝ }
-    ensures { λ r. ⌜ Settles (now (rule .entry)) (now (pool .entry)) b entry r ⌝ }
+    ensures { λ r. ⌜ Settles (now (rule .entry)) (now (pool .entry)) b entry same r ⌝ }
 {
     let e = entry_at(rule, entry);
-    if e.b != 0 {
-        return false;
+    if is_wide(pool, b, e) {
+        return sure(rule, pool, b.bind(0), e.a as usize, e.kind == 5, same, 1);
     }
-    if b.depth == 0 {
-        return false;
-    }
-    sure(rule, pool, b.bind(0), e.a as usize, e.kind == 5, 1)
+    false
 }

@@ -27,7 +27,7 @@ pub(crate) fn holds(rule: &[u32], pool: &[u32], b: Bindings, entry: usize) -> bo
         return holds(rule, pool, b, e.b as usize);
     }
     if e.kind < 7 {
-        if settled_before(rule, pool, b, entry) {
+        if settled_before(rule, pool, b, entry, false) {
             return e.kind == 5;
         }
         let r = run_of(pool, b, e);

@@ -1,5 +1,6 @@
 // Marks the reason of an entry with its verdict.
 use super::bindings::Bindings;
+use super::certain::settled_before;
 use super::connectives::left_decides;
 use super::connectives::side;
 use super::evaluator::holds;
@@ -11,12 +12,16 @@ use super::words::place_of;
 use tables::Entry;
 ghost use mathlib.Core.Path.{_≡_};
 ghost use Prim.Native.Nat.{ℕ, _+_, _<_, _≤_};
-ghost use lib.ListN.{length, getD};
+ghost use mathlib.Core.Bool.{true, cond};
+ghost use lib.ListN.{length, getD, set};
+ghost use Rattle.base.specs.Lists.{any, select};
 ghost use Rattle.base.specs.Search.{first};
-ghost use Rattle.tables.specs.Words.{entryAt, rowCount};
+ghost use Rattle.tables.specs.Words.{entryAt, entryCount, rowCount, rowsFrom};
+ghost use Rattle.tables.specs.Rules.{acceptedRule};
+ghost use Rattle.tables.specs.Tables.{acceptedTable};
 ghost use Rattle.logic.specs.Verdict.{settled};
-ghost use Rattle.engine.specs.Ready.{quantifierOf, Ready, ReadyRows, verdictAt, verdictFrom};
-ghost use Rattle.engine.specs.Marked.{markIn, markAt, markCompared, reasonAt, reasonFrom, decidesAt};
+ghost use Rattle.engine.specs.Ready.{quantifierOf, Placed, rangesAt, Ready, ReadyRows, verdictAt, verdictFrom};
+ghost use Rattle.engine.specs.Marked.{Under, markIn, markAt, markCompared, reasonAt, reasonFrom, decidesAt};
 
 // Marks the row at a place.
 fn mark(place: usize, out: &mut [u8])
@@ -25,6 +30,16 @@ fn mark(place: usize, out: &mut [u8])
 {
     if 0 < place {
         out[place - 1] = 1;
+    }
+}
+
+// Marks a row if it is asked.
+fn mark_if(asked: bool, row: usize, out: &mut [u8])
+    requires { ⌜ row < length (now out) ⌝ }
+    ensures { λ _. ⌜ now (out .exit) ≡ cond asked (set (now (out .entry)) row 1) (now (out .entry)) ⌝ }
+{
+    if asked {
+        out[row] = 1;
     }
 }
 
@@ -38,6 +53,25 @@ fn mark_compared(b: Bindings, e: Entry, out: &mut [u8])
     if e.b == 0 {
         mark(place_of(b, e.c as usize), out);
     }
+}
+
+// Marks those of `rows` rows from `row` on that a quantifier's entry ranges over, and tells whether there are any.
+fn mark_ranged(pool: &[u32], b: Bindings, e: Entry, row: usize, rows: usize, out: &mut [u8]) -> bool
+    requires { ⌜ Placed (now pool) b ⌝ }
+    requires { ⌜ (acceptedTable (now pool) ≡ true) × (e .b ≤ 8) ⌝ }
+    requires { ⌜ (row + rows ≤ rowCount (now pool)) × (rowCount (now pool) ≤ length (now out)) ⌝ }
+    ensures { λ r. ⌜ r ≡ any (rangesAt (now (pool .entry)) b e) (rowsFrom (now (pool .entry)) row rows) ⌝ }
+    ensures { λ _. ⌜ now (out .exit) ≡ markIn (now (pool .entry)) (select (rangesAt (now (pool .entry)) b e) (rowsFrom (now (pool .entry)) row rows)) (now (out .entry)) ⌝ }
+{
+    let mut found = false;
+    let mut i = 0;
+    while i < rows {
+        let ranged = ranges(pool, b, e, row + i);
+        mark_if(ranged, row + i, out);
+        found = found | ranged;
+        i += 1;
+    }
+    found
 }
 
 // Whether a quantifier's entry ranges over a row and is decided there.
@@ -75,6 +109,30 @@ fn first_deciding(
     row + rows
 }
 
+// An entry, and a verdict of it.
+pub(crate) struct Judged {
+    pub entry: usize,
+    pub verdict: bool,
+}
+
+// The entry under the nots that an entry begins with, and its verdict: a chain of them takes no stack.
+fn past_nots(rule: &[u32], entry: usize, verdict: bool) -> Judged
+    requires { ⌜ (acceptedRule (now rule) ≡ true) × (entry < entryCount (now rule)) ⌝ }
+    ensures { λ r. ⌜ Under (now (rule .entry)) entry verdict (r .entry) (r .verdict) ⌝ }
+    ensures { λ r. ⌜ (entryAt (now (rule .entry)) (r .entry) .kind ≡ 1 → ⊥) ⌝ }
+{
+    let mut at = entry;
+    let mut turned = verdict;
+    while entry_at(rule, at).kind == 1 {
+        at = entry_at(rule, at).a as usize;
+        turned = !turned;
+    }
+    Judged {
+        entry: at,
+        verdict: turned,
+    }
+}
+
 // Marks the reason of an entry with that verdict.
 pub(crate) fn explain(
     rule: &[u32],
@@ -88,12 +146,11 @@ pub(crate) fn explain(
     requires { ⌜ (verdict ≡ verdictAt (now rule) (now pool) b entry) × (rowCount (now pool) ≤ length (now out)) ⌝ }
     ensures { λ _. ⌜ now (out .exit) ≡ markIn (now (pool .entry)) (reasonAt (now (rule .entry)) (now (pool .entry)) b entry) (now (out .entry)) ⌝ }
 {
-    let e = entry_at(rule, entry);
+    let bare = past_nots(rule, entry, verdict);
+    let at = bare.entry;
+    let verdict = bare.verdict;
+    let e = entry_at(rule, at);
     let a = e.a as usize;
-    if e.kind == 1 {
-        explain(rule, pool, b, a, !verdict, out);
-        return;
-    }
     if e.kind < 5 {
         let second = e.b as usize;
         if verdict == (e.kind == 2) {
@@ -112,10 +169,16 @@ pub(crate) fn explain(
     if e.kind < 7 {
         let r = run_of(pool, b, e);
         if verdict == (e.kind == 5) {
-            explain_rows(rule, pool, b, entry, r.start, r.rows, out);
+            if settled_before(rule, pool, b, at, true) {
+                if mark_ranged(pool, b, e, r.start, r.rows, out) {
+                    explain(rule, pool, b.bind(0), a, verdict, out);
+                }
+                return;
+            }
+            explain_rows(rule, pool, b, at, r.start, r.rows, out);
             return;
         }
-        let row = first_deciding(rule, pool, b, entry, r.start, r.rows);
+        let row = first_deciding(rule, pool, b, at, r.start, r.rows);
         out[row] = 1;
         explain(rule, pool, b.bind(row + 1), a, verdict, out);
         return;
