@@ -26,7 +26,7 @@ pub fn print() {
 
 fn measure_all() -> Vec<(&'static str, usize)> {
     let (rules, mut tables) = (largest::rules(), largest::tables());
-    tables.extend([largest::table_of_two(), largest::longest_pool()]);
+    tables.extend([largest::table_of_two(), largest::table_of_ends(), largest::longest_pool()]);
     let (mut words, mut bytes) = (vec![0; MOST_ROWS * ROW_WORDS], vec![0; 65_536]);
     let mut most = vec![];
     let mut note = |name: &'static str, used: usize| match most.iter_mut().find(|(known, _)| *known == name) {
@@ -50,8 +50,7 @@ fn measure_all() -> Vec<(&'static str, usize)> {
             let pool_file = POOL.text_of(table);
             note("check_files", stack_of(|| ffi::check_files(&rule_file, &pool_file)));
         }
-        // The other tables take long in mode 3.
-        for table in &largest::tables() {
+        for table in &tables {
             let pool_file = POOL.text_of(table);
             for (mode, name) in [(1, "part, mode 1"), (2, "part, mode 2"), (3, "part, mode 3")] {
                 note(name, stack_of(|| ffi::part(rule, table, mode, &mut words)));

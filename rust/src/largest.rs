@@ -14,7 +14,22 @@ pub fn rules() -> Vec<Vec<u32>> {
     for kind in [2, 3, 4] {
         rules.extend([deep_right(kind), deep_left(kind)]);
     }
+    rules.extend([over_connectives(5, 2, 9), over_connectives(6, 3, 8)]);
     rules
+}
+
+/// Eight quantifiers around one chain of connectives to the left, of comparisons with the innermost variable
+/// that do not decide: every row and both sides are in the reason.
+fn over_connectives(quantifier: u32, connective: u32, comparison: u32) -> Vec<u32> {
+    let innermost = MOST_NESTED as u32 - 1;
+    let mut rule: Vec<u32> = (0..MOST_NESTED as u32).flat_map(|place| [quantifier, place + 1, 0, LAST]).collect();
+    while rule.len() / 4 + 2 < MOST_ENTRIES {
+        let place = rule.len() as u32 / 4;
+        rule.extend([connective, place + 2, place + 1, 0]);
+        rule.extend([comparison, innermost, 0, innermost]);
+    }
+    rule.extend([comparison, innermost, 0, innermost]);
+    rule
 }
 
 /// Eight quantifiers around one another: some x that is the last row, and some y that is, and so on.
@@ -101,6 +116,11 @@ pub fn tables() -> Vec<Vec<u32>> {
 /// A table whose last two rows have the same name: each quantifier decides at the second.
 pub fn table_of_two() -> Vec<u32> {
     table(|row| if row + 2 < MOST_ROWS as u32 { [0, COMMON] } else { [0, LAST] })
+}
+
+/// A table whose first and last row have the same name: a walk by halves goes as deep as it can.
+pub fn table_of_ends() -> Vec<u32> {
+    table(|row| if row % (MOST_ROWS as u32 - 1) == 0 { [0, LAST] } else { [0, COMMON] })
 }
 
 /// Up and name of each row are given; its value is its place.

@@ -4,7 +4,7 @@ use mathlib.Core.Path.{_≡_, sym, ap, ap₂, subst, _∙_}
 use mathlib.Core.Bool.{Bool, true, false, cond}
 use mathlib.Core.List.{List, [], _++_, append-nil}
 use native.Mathlib.Omega.{arith}
-use lib.ListN.{length, take, drop, take-append-drop, length-drop}
+use lib.ListN.{length, take, drop, take-append-drop, length-drop, replicate, length-replicate}
 use lib.Seq.{length-take-le}
 use lib.Dec.{eqb, ltb, leb}
 use borrow.Author.Tests.{eq-eqb, ne-eqb, eqb-true, ltb-true, ltb-false, le-leb}
@@ -131,17 +131,19 @@ module _ (rule t : List ℕ) (rule-ok : acceptedRule rule ≡ true) (ok : accept
   pub count-few : partCount (formula rule) mode t d ≤ 1024
   count-few = omega (arith, part-few (formula rule) mode (deviceRows (rows t) d), own-few t ok d)
 
-  pub part-count : (words out : List ℕ) (a : Answer) → words ≡ take (deviceEnd t d - deviceStart t d) (drop (deviceStart t d) t) → 5120 ≤ length out
-      → a ≡ partAnswer rule words mode (length out) → (v : ℕ) → v ≡ value a → (v ≡ partCount (formula rule) mode t d) × (v ≤ 1024)
-  part-count words out a e h q v k =
+  pub part-count : (words : List ℕ) (room : ℕ) (a : Answer) → words ≡ take (deviceEnd t d - deviceStart t d) (drop (deviceStart t d) t) → 5120 ≤ room
+      → a ≡ partAnswer rule words mode room → (v : ℕ) → v ≡ value a → (v ≡ partCount (formula rule) mode t d) × (v ≤ 1024)
+  part-count words room a e h q v k =
       let D = deviceRows (rows t) d in
       let is : words ≡ wordsOf D = e ∙ own-words t ok d in
-      let room : length (wordsOf (partOf (formula rule) mode D)) ≤ length out = omega (arith, length-words (partOf (formula rule) mode D), count-few) in
+      let out : List ℕ = replicate room 0 in
+      let long : room ≡ length out = sym (length-replicate {A = ℕ} room 0) in
+      let fits : length (wordsOf (partOf (formula rule) mode D)) ≤ length out = omega (arith, length-words (partOf (formula rule) mode D), count-few) in
       let w : v ≡ partCount (formula rule) mode t d = k ∙ ap value (
-      q ∙ ap (λ (l : List ℕ). partAnswer rule l mode (length out)) is
+      q ∙ ap₂ (λ (l : List ℕ) (n : ℕ). partAnswer rule l mode n) is long
       ∙ part-is rule (wordsOf D) rule-ok (own-accepted t ok d) d (λ r m. eqb-true (r .device) d (select-out (λ x. eqb (x .device) d) (rows t) (subst (λ (l : List Row). r ∈ l) (rows-words D) m) .1)) mode low high out
       ∙ ap (λ (l : List Row). unless (leb (length (wordsOf (partOf (formula rule) mode l))) (length out)) 17 (Done (length (partOf (formula rule) mode l)))) (rows-words D)
-      ∙ unless-passed (leb (length (wordsOf (partOf (formula rule) mode D))) (length out)) 17 _ (le-leb _ _ room)
+      ∙ unless-passed (leb (length (wordsOf (partOf (formula rule) mode D))) (length out)) 17 _ (le-leb _ _ fits)
       ) in
       (w, omega (arith, count-few))
 

@@ -1,6 +1,6 @@
 // The counts that the program prints.
 use engine::marks;
-use parts::part;
+use parts::part_size;
 use tables::Answer;
 use tables::device_rows;
 ghost use mathlib.Core.Path.{_≡_};
@@ -42,13 +42,12 @@ fn begins_device(pool: &[u32], i: usize) -> bool
     !(pool[5 * i + 0] == pool[5 * before + 0])
 }
 
-// The rows of one device's part.
+// The rows of one device's part: a buffer of 1,024 rows has room for any.
 fn part_count(rule: &[u32], pool: &[u32], device: u32, mode: u32) -> usize
     requires { ⌜ (acceptedRule (now rule) ≡ true) × (acceptedTable (now pool) ≡ true) × (1 ≤ mode) × (mode ≤ 3) ⌝ }
     ensures { λ r. ⌜ (r ≡ partCount (formula (now (rule .entry))) mode (now (pool .entry)) device) × (r ≤ 1024) ⌝ }
 {
-    let mut sent = [0u32; 5120];
-    value_of(part(rule, device_rows(pool, device), mode, &mut sent))
+    value_of(part_size(rule, device_rows(pool, device), mode, 5120))
 }
 
 // The same at the first row of each device, 0 at the others.

@@ -21,8 +21,9 @@ use Rattle.logic.specs.Formulas.{formula}
 use Rattle.logic.specs.Parts.{contradiction, partOf, wordsOf, otherDevice, partAnswer, partOut}
 use Rattle.logic.proofs.Words.{length-words}
 use Rattle.parts.specs.Keeping.{OneDevice, ReadyPart, Keeps}
-use Rattle.parts.specs.Sending.{rowsSent, requestAnswer}
+use Rattle.parts.specs.Sending.{rowsSent, requestAnswer, Chooses}
 use Rattle.parts.specs.declared.keeping.Kept.{Kept}
+use Rattle.parts.specs.declared.calls.Choice.{Choice}
 use Rattle.parts.proofs.Sent.{sent-is, count-is}
 
 -- ---- 14: a row of another device
@@ -178,18 +179,36 @@ module _ (rule t : List ℕ) (m room : ℕ) where
               sym (short-is ∙ ap (λ (b : Bool). unless b 17 (Done (length sent))) (le-leb (length (wordsOf sent)) room (omega (arith, words-sent)))
               ∙ ap Done (sym count-sent))
 
+          pub chooses-done : rowCount t ≤ length (k .row) → 5 * count ≤ room → Chooses rule t m room (record { answer = Done count; row = k .row })
+          chooses-done l h = record {
+            answer = part-done h;
+            sized = λ _. l;
+            sent = λ _. sent-is rule t (k .row) m (keeps .marked);
+            fits = λ _. omega (arith, words-sent);
+          }
+
+-- a refusal, whatever the bytes
+pub chooses-refused : (rule t : List ℕ) (m room k p : ℕ) (bytes : List ℕ) → Refused k p ≡ partAnswer rule t m room → Chooses rule t m room (record { answer = Refused k p; row = bytes })
+chooses-refused rule t m room k p bytes e = record { answer = e; sized = λ h. absurd (false≢true h); sent = λ h. absurd (false≢true h); fits = λ h. absurd (false≢true h) }
+
 -- ---- the output
 pub out-kept : (rule t : List ℕ) (m : ℕ) (out : List ℕ) (k p : ℕ) → Refused k p ≡ partAnswer rule t m (length out) → out ≡ partOut rule t m out
 unfolding partOut
 out-kept rule t m out k p e = ap (λ (a : Answer). cond (isDone a) (wordsOf (partOf (formula rule) m (rows t)) ++ drop (length (wordsOf (partOf (formula rule) m (rows t)))) out) out) e
 
-pub out-written : (rule t : List ℕ) (m : ℕ) (out : List ℕ) (n : ℕ) → Done n ≡ partAnswer rule t m (length out) → (k : Kept) → Keeps rule t m k
-    → length (wordsOf (rowsSent t (k .row) 0 (rowCount t))) ≤ length out → (out′ : List ℕ) → out′ ≡ sets out 0 (wordsOf (rowsSent t (k .row) 0 (rowCount t))) → out′ ≡ partOut rule t m out
-unfolding partOut
-out-written rule t m out n e k keeps room out′ out-is =
-    let ws = wordsOf (rowsSent t (k .row) 0 (rowCount t)) in
-    let z : 0 + length ws ≡ length ws = omega arith in
-    out-is ∙ sets-eq ws out 0 (omega arith)
-    ∙ ap (λ (j : ℕ). ws ++ drop j out) z
-    ∙ ap (λ (D : List Row). wordsOf D ++ drop (length (wordsOf D)) out) (sent-is rule t (k .row) m (keeps .marked))
-    ∙ ap (λ (a : Answer). cond (isDone a) (wordsOf (partOf (formula rule) m (rows t)) ++ drop (length (wordsOf (partOf (formula rule) m (rows t)))) out) out) e
+module _ (rule t : List ℕ) (m : ℕ) (out : List ℕ) (r : Choice) (c : Chooses rule t m (length out) r) (n : ℕ) (done : r .answer ≡ Done n) where
+  chosen : isDone (r .answer) ≡ true
+  chosen = ap isDone done
+
+  pub words-fit : (rowCount t ≤ length (r .row)) × (length (wordsOf (rowsSent t (r .row) 0 (rowCount t))) ≤ length out)
+  words-fit = (c .sized chosen, omega (arith, ap (λ (D : List Row). length (wordsOf D)) (c .sent chosen), c .fits chosen))
+
+  pub out-written : (out′ : List ℕ) → out′ ≡ sets out 0 (wordsOf (rowsSent t (r .row) 0 (rowCount t))) → out′ ≡ partOut rule t m out
+  unfolding partOut
+  out-written out′ out-is =
+      let ws = wordsOf (rowsSent t (r .row) 0 (rowCount t)) in
+      let z : 0 + length ws ≡ length ws = omega arith in
+      out-is ∙ sets-eq ws out 0 (omega (arith, words-fit .1))
+      ∙ ap (λ (j : ℕ). ws ++ drop j out) z
+      ∙ ap (λ (D : List Row). wordsOf D ++ drop (length (wordsOf D)) out) (c .sent chosen)
+      ∙ ap (λ (a : Answer). cond (isDone a) (wordsOf (partOf (formula rule) m (rows t)) ++ drop (length (wordsOf (partOf (formula rule) m (rows t)))) out) out) (sym done ∙ c .answer)

@@ -12,7 +12,7 @@ ghost use lib.ListN.{length};
 ghost use Rattle.base.specs.Search.{first};
 ghost use Rattle.tables.specs.Words.{rowCount};
 ghost use Rattle.logic.specs.Parts.{otherDevice, partAnswer, partOut};
-ghost use Rattle.parts.specs.Sending.{requestAnswer};
+ghost use Rattle.parts.specs.Sending.{Chooses, requestAnswer};
 
 // The first row whose device isn't the first row's, or the number of rows.
 fn first_other(table: &[u32]) -> usize
@@ -57,31 +57,70 @@ fn check_request(rule: &[u32], table: &[u32], mode: u32) -> Answer
     Answer::Done(0)
 }
 
+// Which rows a device sends into an output of that many words: a byte for each row, and the answer.
+struct Choice {
+    answer: Answer,
+    row: [u8; 1024],
+}
+
+fn choose(rule: &[u32], table: &[u32], mode: u32, room: usize) -> Choice
+    ensures { λ r. ⌜ Chooses (now (rule .entry)) (now (table .entry)) mode room r ⌝ }
+{
+    let a = check_request(rule, table, mode);
+    if let Answer::Refused { number, place } = a {
+        return Choice {
+            answer: Answer::Refused { number, place },
+            row: [0; 1024],
+        };
+    }
+    let kept = kept_rows(rule, table, mode);
+    if kept.contradicted {
+        return Choice {
+            answer: Answer::Refused {
+                number: 15,
+                place: 0,
+            },
+            row: [0; 1024],
+        };
+    }
+    let bytes = kept.row;
+    let count = count_kept(&bytes, row_count(table));
+    if room < 5 * count {
+        return Choice {
+            answer: Answer::Refused {
+                number: 17,
+                place: 0,
+            },
+            row: [0; 1024],
+        };
+    }
+    Choice {
+        answer: Answer::Done(count),
+        row: bytes,
+    }
+}
+
+// What `part` answers with that many words of room: nothing is written.
+pub fn part_size(rule: &[u32], table: &[u32], mode: u32, room: usize) -> Answer
+    ensures { λ r. ⌜ r ≡ partAnswer (now (rule .entry)) (now (table .entry)) mode room ⌝ }
+{
+    choose(rule, table, mode, room).answer
+}
+
 // The rows that a device with this table sends for this rule: all (mode 1), its branch part (2), its full part (3). The answer is
 // their number; their words go to the start of `out`.
 pub fn part(rule: &[u32], table: &[u32], mode: u32, out: &mut [u32]) -> Answer
     ensures answer { λ r. ⌜ r ≡ partAnswer (now (rule .entry)) (now (table .entry)) mode (length (now (out .entry))) ⌝ }
     ensures words { λ _. ⌜ now (out .exit) ≡ partOut (now (rule .entry)) (now (table .entry)) mode (now (out .entry)) ⌝ }
 {
-    let a = check_request(rule, table, mode);
-    if let Answer::Refused { number, place } = a {
-        return Answer::Refused { number, place };
+    let choice = choose(rule, table, mode, out.len());
+    let bytes = choice.row;
+    let answer = choice.answer;
+    match answer {
+        Answer::Refused { number, place } => Answer::Refused { number, place },
+        Answer::Done(count) => {
+            send(table, &bytes, out);
+            Answer::Done(count)
+        }
     }
-    let kept = kept_rows(rule, table, mode);
-    if kept.contradicted {
-        return Answer::Refused {
-            number: 15,
-            place: 0,
-        };
-    }
-    let bytes = kept.row;
-    let count = count_kept(&bytes, row_count(table));
-    if out.len() < 5 * count {
-        return Answer::Refused {
-            number: 17,
-            place: 0,
-        };
-    }
-    send(table, &bytes, out);
-    Answer::Done(count)
 }

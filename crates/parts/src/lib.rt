@@ -11,3 +11,4 @@ mod sending;
 mod words;
 
 pub use calls::part;
+pub use calls::part_size;

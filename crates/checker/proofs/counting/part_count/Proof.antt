@@ -1,6 +1,4 @@
 -- `checker::counting::part_count` meets its contract, by the laws of proofs/OwnRows.antt. Assumes nothing.
-use Prim.Native.Nat.{ℕ}
-use lib.ListN.{replicate, length-replicate}
 use native.Mathlib.Omega.{arith}
 use Rattle.checker.proofs.OwnRows.{part-count}
 use borrow.Author.Needs.{needs}
@@ -10,7 +8,6 @@ use Rattle.checker.proofs.counting.part_count.Tie as tie
 pub part-count-spec : {M : Type 1} → statement M
 part-count-spec = tie.close (tie.spec
     (λ c κs. search needs)
-    (λ c. search needs)
     (λ c κs. search needs)
     (λ c κs. search needs)
-    (λ c. let p = c .before .before .before .before .before .before .before .pre in part-count _ _ (p .0) (p .1) _ _ (p .2) (p .3) _ (replicate 5120 0) _ (c .before .before .before .before .device-rows .ensures .words) (omega (arith, length-replicate {A = ℕ} 5120 0)) (c .before .before .part .ensures .0) _ (c .value-of .ensures)))
+    (λ c. let p = c .before .before .before .before .before .pre in part-count _ _ (p .0) (p .1) _ _ (p .2) (p .3) _ _ _ (c .before .before .device-rows .ensures .words) (omega arith) (c .before .part-size .ensures) _ (c .value-of .ensures)))
