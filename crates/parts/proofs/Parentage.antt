@@ -46,8 +46,17 @@ module _ (t : List ℕ) (ok : acceptedTable t ≡ true) (i : ℕ) (h : i < rowCo
     unfolding parentOf
     parent-is = at-first (λ j. isParent (rowAt t i) (rowAt t j)) i parent-before
 
-    pub one-parent : select (isParent (rowAt t i)) (rows t) ≡ rowAt t (parentOf t i) ∷ []
-    one-parent = select-only (isParent (rowAt t i)) t (rowCount t) (parentOf t i) (omega (arith, parent-before)) parent-is
-        (λ j l f. same-place t ok j (parentOf t i) l (omega (arith, parent-before))
-        (parent-device (rowAt t i) (rowAt t j) f ∙ sym (parent-device (rowAt t i) (rowAt t (parentOf t i)) parent-is))
-        (parent-at (rowAt t i) (rowAt t j) f ∙ sym (parent-at (rowAt t i) (rowAt t (parentOf t i)) parent-is)))
+  -- a row that is its parent is the one found
+  has-parent : (p : ℕ) → p < rowCount t → isParent (rowAt t i) (rowAt t p) ≡ true → parentOf t i ≡ i → ⊥
+  unfolding parentOf
+  has-parent p l f e = true≢false (sym f ∙ none-before (λ k. isParent (rowAt t i) (rowAt t k)) i p (omega (arith, behind t ok p i l h f)))
+
+  pub only-parent : (p : ℕ) → p < rowCount t → isParent (rowAt t i) (rowAt t p) ≡ true → p ≡ parentOf t i
+  only-parent p l f =
+      let found = parent-is (has-parent p l f) in
+      same-place t ok p (parentOf t i) l (omega (arith, parent-le))
+      (parent-device (rowAt t i) (rowAt t p) f ∙ sym (parent-device (rowAt t i) (rowAt t (parentOf t i)) found))
+      (parent-at (rowAt t i) (rowAt t p) f ∙ sym (parent-at (rowAt t i) (rowAt t (parentOf t i)) found))
+
+  pub one-parent : (parentOf t i ≡ i → ⊥) → select (isParent (rowAt t i)) (rows t) ≡ rowAt t (parentOf t i) ∷ []
+  one-parent n = select-only (isParent (rowAt t i)) t (rowCount t) (parentOf t i) (omega (arith, parent-before n)) (parent-is n) only-parent

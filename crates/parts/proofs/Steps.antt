@@ -13,7 +13,7 @@ use Rattle.tables.specs.Words.{rowAt, rowCount, rows, rowsFrom, entryAt, entryC
 use Rattle.tables.specs.Tables.{acceptedTable, isParent}
 use Rattle.tables.specs.declared.Row.{Row}
 use Rattle.tables.specs.declared.Entry.{Entry}
-use Rattle.tables.proofs.Accepted.{behind}
+use Rattle.tables.proofs.Accepted.{behind, few-rows}
 use Rattle.logic.specs.Formulas.{Quantifier, overOf, formulaAt}
 use Rattle.logic.specs.Verdict.{Place, nothing, bound, bind, named, hangs, ranges, settled}
 use Rattle.logic.specs.Reading as meaning
@@ -27,6 +27,7 @@ use Rattle.engine.proofs.Opened.{Opened, not-formula, joined-formula, quantifie
 use Rattle.engine.proofs.Steps.{entry, room, part-ready, ranged-none, ranged-halves, ranged-one}
 use Rattle.parts.specs.Codes.{codeOf, ofBool, flipped, joinCode, endsLeft, overKind}
 use Rattle.parts.specs.Device.{placeUnder, hangsAt, rangedAt, comparedAt, readAt, bodyAt, sweepAt, ReadySweep}
+use Rattle.parts.specs.Reaching.{Ends}
 use Rattle.parts.specs.declared.readings.Reading.{Reading}
 use Rattle.parts.specs.declared.readings.Reading.the-variants.{True, False, Open, Both}
 use Rattle.parts.proofs.Codes.{flips, join-code, join-decided, both-code, both-decided, settled-code, roots-read, over-code}
@@ -220,12 +221,30 @@ module _ (rule t : List ℕ) (b : Bindings) (e i k : ℕ) (ready : ReadyRows rul
       here = λ z. subst (λ (w : Entry). 0 < placeUnder (b .row) (w .b)) x-is (omega (arith, place-named (b .row) (x .b) p u p-is, h));
     }
 
-    pub under-reads : (m : ℕ) → m ≡ rowCount t → (o : Reading) → o ≡ sweepAt rule t b e p (m - p) → o ≡ readAt rule t b e
-    under-reads m m-is o o-is =
-        o-is ∙ ap (λ (n : ℕ). sweepAt rule t b e p (n - p)) m-is
-        ∙ ap (λ (l : List Row). codeOf (meaning.underBound (q-at (entryAt rule e)) body l))
-        (select-span (rangesAt t b (entryAt rule e)) t (rowCount t) p (rowCount t - p) (omega (arith, parent-inside)) none-earlier (λ j a c. absurd (omega (arith, parent-inside))))
-        ∙ ap (λ (w : Place). codeOf (meaning.underPlace (q-at (entryAt rule e)) w body own)) (sym at-parent)
-        ∙ ap (λ (n : ℕ). codeOf (meaning.quantify (q-at (entryAt rule e)) (overOf n) (meant t b) body own)) (let s : suc (x .b - 1) ≡ x .b = omega arith in s)
-        ∙ ap (λ (w : Entry). codeOf (meaning.quantify (q-at (entryAt rule e)) (overOf (w .b)) (meant t b) body own)) x-is
-        ∙ sym quantified-reads
+    pub place-few : p ≤ 1024
+    place-few = omega (arith, parent-inside, few-rows t (ready .ready .pool-accepted))
+
+    -- and no row from their end on is
+    module _ (ends : List ℕ) (has-ends : Ends t ends) where
+      pub end-behind : p ≤ getD ends (p - 1) 0
+      end-behind = omega (arith, h, has-ends .behind (p - 1) (omega (arith, parent-inside)))
+
+      pub end-inside : getD ends (p - 1) 0 ≤ rowCount t
+      end-inside = has-ends .within (p - 1) (omega (arith, parent-inside))
+
+      none-later : (j : ℕ) → getD ends (p - 1) 0 ≤ j → j < rowCount t → rangesAt t b (entryAt rule e) (rowAt t j) ≡ false
+      none-later j a c = either (rangesAt t b (entryAt rule e) (rowAt t j))
+          (λ f. absurd (true≢false (sym (and-left (isParent (rowAt t j) (rowAt t (p - 1))) (named (x .c) (rowAt t j)) (sym (ranges-is (rowAt t j)) ∙ f))
+          ∙ has-ends .none-later (p - 1) j (omega (arith, parent-inside)) a c)))
+          (λ f. f)
+
+      pub under-reads : (m : ℕ) → m ≡ getD ends (p - 1) 0 → (o : Reading) → o ≡ sweepAt rule t b e p (m - p) → o ≡ readAt rule t b e
+      under-reads m m-is o o-is =
+          o-is
+          ∙ ap (λ (l : List Row). codeOf (meaning.underBound (q-at (entryAt rule e)) body l))
+          (select-span (rangesAt t b (entryAt rule e)) t (rowCount t) p (m - p) (omega (arith, m-is, end-behind, end-inside)) none-earlier
+          (λ j a c. none-later j (omega (arith, m-is, end-behind)) c))
+          ∙ ap (λ (w : Place). codeOf (meaning.underPlace (q-at (entryAt rule e)) w body own)) (sym at-parent)
+          ∙ ap (λ (n : ℕ). codeOf (meaning.quantify (q-at (entryAt rule e)) (overOf n) (meant t b) body own)) (let s : suc (x .b - 1) ≡ x .b = omega arith in s)
+          ∙ ap (λ (w : Entry). codeOf (meaning.quantify (q-at (entryAt rule e)) (overOf (w .b)) (meant t b) body own)) x-is
+          ∙ sym quantified-reads

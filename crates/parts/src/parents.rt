@@ -4,7 +4,7 @@ use super::words::row_count;
 ghost use mathlib.Core.Path.{_≡_};
 ghost use Prim.Native.Nat.{_<_};
 ghost use Rattle.tables.specs.Words.{rowCount};
-ghost use Rattle.parts.specs.Reaching.{parentOf, Parents};
+ghost use Rattle.parts.specs.Reaching.{parentOf, Parents, Ends};
 ghost use Rattle.parts.specs.Keeping.{OneDevice};
 
 // The number of a row's parent, or the row's own where it has none. Rows of one device rise by `at`: it is looked for by halves.
@@ -45,4 +45,22 @@ pub(crate) fn parents_of(table: &[u32]) -> [usize; 1024]
         i += 1;
     }
     parents
+}
+
+// For each row one more than the number of its last child, or than its own: no row from there on is its child.
+pub(crate) fn ends_of(table: &[u32], parents: &[usize]) -> [usize; 1024]
+    requires { ⌜ OneDevice (now table) ⌝ }
+    requires { ⌜ Parents (now table) (now parents) ⌝ }
+    ensures { λ r. ⌜ Ends (now (table .entry)) r ⌝ }
+{
+    let n = row_count(table);
+    let mut ends = [0usize; 1024];
+    let mut i = 0;
+    while i < n {
+        let parent = parents[i];
+        ends[i] = i + 1;
+        ends[parent] = i + 1;
+        i += 1;
+    }
+    ends
 }
