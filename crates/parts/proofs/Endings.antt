@@ -1,12 +1,12 @@
 -- Where each row's children end, row by row. Assumes nothing.
 use Prim.Native.Nat.{ℕ, _+_, _<_, _≤_}
-use mathlib.Core.Path.{_≡_, refl, sym, ap, _∙_}
+use mathlib.Core.Path.{_≡_, sym, ap, _∙_}
 use mathlib.Core.Logic.{⊎-elim}
 use mathlib.Core.Bool.{Bool, true, false, true≢false}
 use mathlib.Core.List.{List}
 use native.Mathlib.Nat.{eq-or-lt-of-le}
 use native.Mathlib.Omega.{arith}
-use lib.ListN.{length, getD, set, replicate, length-set}
+use lib.ListN.{length, getD, set, length-set}
 use lib.Seq.{getD-set-same, getD-set-other}
 use lib.Dec.{eqb}
 use borrow.Author.Tests.{eqb-true, eqb-false}
@@ -18,9 +18,9 @@ use Rattle.parts.specs.Reaching.{parentOf, Parents, EndsWithin}
 use Rattle.parts.specs.Keeping.{OneDevice}
 use Rattle.parts.proofs.Parentage.{parent-le, only-parent}
 
-pub ends-begin : (t : List ℕ) → EndsWithin t (replicate 1024 0) 0
-ends-begin t = record {
-  sized = refl;
+pub ends-begin : (t ends : List ℕ) → length ends ≡ 1024 → EndsWithin t ends 0
+ends-begin t ends l = record {
+  sized = l;
   behind = λ p h. absurd (omega arith);
   within = λ p h. absurd (omega arith);
   none-later = λ p j h a l. absurd (omega arith);

@@ -1,8 +1,8 @@
 // Which rows of a device's table its part keeps.
 use super::chains::Binders;
 use super::omitting::omits;
-use super::parents::ends_of;
-use super::parents::parents_of;
+use super::parents::find_ends;
+use super::parents::find_parents;
 use super::readings::Reading;
 use super::readings::flip;
 use super::words::row_count;
@@ -73,8 +73,10 @@ pub(crate) fn kept_rows(rule: &[u32], table: &[u32], mode: u32) -> Kept
     requires { ⌜ ReadyPart (now rule) (now table) ⌝ }
     ensures { λ r. ⌜ Keeps (now (rule .entry)) (now (table .entry)) mode r ⌝ }
 {
-    let parents = parents_of(table);
-    let ends = ends_of(table, &parents);
+    let mut parents = [0usize; 1024];
+    find_parents(table, &mut parents);
+    let mut ends = [0usize; 1024];
+    find_ends(table, &parents, &mut ends);
     let n = row_count(table);
     let mut kept = [0u8; 1024];
     let mut i = 0;

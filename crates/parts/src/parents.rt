@@ -3,6 +3,7 @@ use super::words::row_at;
 use super::words::row_count;
 ghost use mathlib.Core.Path.{_≡_};
 ghost use Prim.Native.Nat.{_<_};
+ghost use lib.ListN.{length};
 ghost use Rattle.tables.specs.Words.{rowCount};
 ghost use Rattle.parts.specs.Reaching.{parentOf, Parents, Ends};
 ghost use Rattle.parts.specs.Keeping.{OneDevice};
@@ -32,29 +33,28 @@ fn parent_of(table: &[u32], row: usize) -> usize
     row
 }
 
-// Each row's.
-pub(crate) fn parents_of(table: &[u32]) -> [usize; 1024]
+// Writes each row's.
+pub(crate) fn find_parents(table: &[u32], parents: &mut [usize])
     requires { ⌜ OneDevice (now table) ⌝ }
-    ensures { λ r. ⌜ Parents (now (table .entry)) r ⌝ }
+    requires { ⌜ length (now parents) ≡ 1024 ⌝ }
+    ensures { λ _. ⌜ Parents (now (table .entry)) (now (parents .exit)) ⌝ }
 {
     let n = row_count(table);
-    let mut parents = [0usize; 1024];
     let mut i = 0;
     while i < n {
         parents[i] = parent_of(table, i);
         i += 1;
     }
-    parents
 }
 
-// For each row one more than the number of its last child, or than its own: no row from there on is its child.
-pub(crate) fn ends_of(table: &[u32], parents: &[usize]) -> [usize; 1024]
+// Writes for each row one more than the number of its last child, or than its own: no row from there on is its child.
+pub(crate) fn find_ends(table: &[u32], parents: &[usize], ends: &mut [usize])
     requires { ⌜ OneDevice (now table) ⌝ }
     requires { ⌜ Parents (now table) (now parents) ⌝ }
-    ensures { λ r. ⌜ Ends (now (table .entry)) r ⌝ }
+    requires { ⌜ length (now ends) ≡ 1024 ⌝ }
+    ensures { λ _. ⌜ Ends (now (table .entry)) (now (ends .exit)) ⌝ }
 {
     let n = row_count(table);
-    let mut ends = [0usize; 1024];
     let mut i = 0;
     while i < n {
         let parent = parents[i];
@@ -62,5 +62,4 @@ pub(crate) fn ends_of(table: &[u32], parents: &[usize]) -> [usize; 1024]
         ends[parent] = i + 1;
         i += 1;
     }
-    ends
 }
