@@ -16,7 +16,7 @@ use Rattle.tables.specs.Tables.{isParent}
 use Rattle.tables.proofs.Accepted.{few-rows}
 use Rattle.parts.specs.Reaching.{parentOf, Parents, EndsWithin}
 use Rattle.parts.specs.Keeping.{OneDevice}
-use Rattle.parts.proofs.Parentage.{parent-le, only-parent}
+use Rattle.parts.proofs.Parentage.{held-le, only-parent}
 
 pub ends-begin : (t ends : List ℕ) → length ends ≡ 1024 → EndsWithin t ends 0
 ends-begin t ends l = record {
@@ -31,7 +31,7 @@ module _ (t parents : List ℕ) (one : OneDevice t) (has : Parents t parents) (i
   few = omega (arith, few-rows t (one .accepted))
 
   pub parent-before : getD parents i 0 ≤ i
-  parent-before = omega (arith, has .holds i h, parent-le t (one .accepted) i h)
+  parent-before = held-le t (one .accepted) i h parents has
 
   -- one more row: it ends behind itself, and so does its parent
   module _ (ends : List ℕ) (s : EndsWithin t ends i) where

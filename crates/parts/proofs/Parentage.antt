@@ -4,6 +4,7 @@ use mathlib.Core.Path.{_≡_, refl, sym, ap, _∙_}
 use mathlib.Core.Bool.{Bool, true, false, true≢false}
 use mathlib.Core.List.{List, [], _∷_}
 use native.Mathlib.Omega.{arith}
+use lib.ListN.{getD}
 use lib.Dec.{ltb}
 use borrow.Author.Tests.{ltb-true, ltb-false}
 use Rattle.base.specs.Lists.{select}
@@ -15,7 +16,7 @@ use Rattle.tables.specs.Tables.{isParent, acceptedTable}
 use Rattle.tables.specs.declared.Row.{Row}
 use Rattle.tables.proofs.Accepted.{parent-device, parent-at, same-place, behind}
 use Rattle.logic.proofs.Walks.{select-none, select-one, select-span}
-use Rattle.parts.specs.Reaching.{parentOf}
+use Rattle.parts.specs.Reaching.{parentOf, Parents}
 
 -- one row alone passes a test
 select-only : (P : Row → Bool) (t : List ℕ) (n p : ℕ) → p < n → P (rowAt t p) ≡ true → ((j : ℕ) → j < n → P (rowAt t j) ≡ true → j ≡ p) → select P (rowsFrom t 0 n) ≡ rowAt t p ∷ []
@@ -30,6 +31,9 @@ module _ (t : List ℕ) (ok : acceptedTable t ≡ true) (i : ℕ) (h : i < rowCo
   pub parent-le : parentOf t i ≤ i
   unfolding parentOf
   parent-le = first-le (λ j. isParent (rowAt t i) (rowAt t j)) i
+
+  pub held-le : (parents : List ℕ) → Parents t parents → getD parents i 0 ≤ i
+  held-le parents has = omega (arith, has .holds i h, parent-le)
 
   -- a row without a parent
   pub no-parents : parentOf t i ≡ i → select (isParent (rowAt t i)) (rows t) ≡ []

@@ -232,6 +232,9 @@ module _ (rule t : List ℕ) (b : Bindings) (e i k : ℕ) (ready : ReadyRows rul
       pub end-inside : getD ends (p - 1) 0 ≤ rowCount t
       end-inside = has-ends .within (p - 1) (omega (arith, parent-inside))
 
+      pub end-few : getD ends (p - 1) 0 ≤ 1024
+      end-few = omega (arith, end-inside, few-rows t (ready .ready .pool-accepted))
+
       none-later : (j : ℕ) → getD ends (p - 1) 0 ≤ j → j < rowCount t → rangesAt t b (entryAt rule e) (rowAt t j) ≡ false
       none-later j a c = either (rangesAt t b (entryAt rule e) (rowAt t j))
           (λ f. absurd (true≢false (sym (and-left (isParent (rowAt t j) (rowAt t (p - 1))) (named (x .c) (rowAt t j)) (sym (ranges-is (rowAt t j)) ∙ f))

@@ -57,13 +57,7 @@ fn compared(table: &[u32], b: Bindings, e: Entry) -> Reading
 }
 
 // What an entry reads.
-pub(crate) fn reads(
-    rule: &[u32],
-    table: &[u32],
-    ends: &[usize],
-    b: Bindings,
-    entry: usize,
-) -> Reading
+pub(crate) fn reads(rule: &[u32], table: &[u32], ends: &[u16], b: Bindings, entry: usize) -> Reading
     requires { ⌜ Ready (now rule) (now table) b entry ⌝ }
     requires { ⌜ Ends (now table) (now ends) ⌝ }
     ensures { λ r. ⌜ r ≡ readAt (now (rule .entry)) (now (table .entry)) b entry ⌝ }
@@ -93,7 +87,7 @@ pub(crate) fn reads(
                 reads(rule, table, ends, b.bind(0), a),
             );
         }
-        let end = ends[place - 1];
+        let end = ends[place - 1] as usize;
         return sweep(rule, table, ends, b, entry, place, end - place);
     }
     let own = sweep(rule, table, ends, b, entry, 0, row_count(table));
@@ -104,7 +98,7 @@ pub(crate) fn reads(
 fn sweep(
     rule: &[u32],
     table: &[u32],
-    ends: &[usize],
+    ends: &[u16],
     b: Bindings,
     entry: usize,
     row: usize,

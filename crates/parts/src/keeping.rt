@@ -28,12 +28,12 @@ fn number_of(x: Reading) -> u8
 }
 
 // Whether a row has a parent, and that does not stay.
-fn parent_left_out(parents: &[usize], kept: &[u8], row: usize) -> bool
+fn parent_left_out(parents: &[u16], kept: &[u8], row: usize) -> bool
     requires { ⌜ row < length (now parents) ⌝ }
     requires { ⌜ getD (now parents) row 0 < length (now kept) ⌝ }
     ensures { λ r. ⌜ r ≡ leftOut (now (parents .entry)) (now (kept .entry)) row ⌝ }
 {
-    let parent = parents[row];
+    let parent = parents[row] as usize;
     if parent == row {
         return false;
     }
@@ -44,8 +44,8 @@ fn parent_left_out(parents: &[usize], kept: &[u8], row: usize) -> bool
 fn row_stays(
     rule: &[u32],
     table: &[u32],
-    parents: &[usize],
-    ends: &[usize],
+    parents: &[u16],
+    ends: &[u16],
     kept: &[u8],
     mode: u32,
     row: usize,
@@ -73,9 +73,9 @@ pub(crate) fn kept_rows(rule: &[u32], table: &[u32], mode: u32) -> Kept
     requires { ⌜ ReadyPart (now rule) (now table) ⌝ }
     ensures { λ r. ⌜ Keeps (now (rule .entry)) (now (table .entry)) mode r ⌝ }
 {
-    let mut parents = [0usize; 1024];
+    let mut parents = [0u16; 1024];
     find_parents(table, &mut parents);
-    let mut ends = [0usize; 1024];
+    let mut ends = [0u16; 1024];
     find_ends(table, &parents, &mut ends);
     let n = row_count(table);
     let mut kept = [0u8; 1024];

@@ -20,7 +20,7 @@ ghost use Rattle.parts.specs.Omitting.{letsOut, ReadyBody, omittedAt, Re
 fn lets_out(
     rule: &[u32],
     table: &[u32],
-    ends: &[usize],
+    ends: &[u16],
     chain: Chain,
     kind: u32,
     body: usize,
@@ -44,8 +44,8 @@ fn lets_out(
 pub(crate) fn omits(
     rule: &[u32],
     table: &[u32],
-    parents: &[usize],
-    ends: &[usize],
+    parents: &[u16],
+    ends: &[u16],
     by: Binders,
     entry: usize,
     row: usize,

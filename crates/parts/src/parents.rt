@@ -34,7 +34,7 @@ fn parent_of(table: &[u32], row: usize) -> usize
 }
 
 // Writes each row's.
-pub(crate) fn find_parents(table: &[u32], parents: &mut [usize])
+pub(crate) fn find_parents(table: &[u32], parents: &mut [u16])
     requires { ⌜ OneDevice (now table) ⌝ }
     requires { ⌜ length (now parents) ≡ 1024 ⌝ }
     ensures { λ _. ⌜ Parents (now (table .entry)) (now (parents .exit)) ⌝ }
@@ -42,13 +42,13 @@ pub(crate) fn find_parents(table: &[u32], parents: &mut [usize])
     let n = row_count(table);
     let mut i = 0;
     while i < n {
-        parents[i] = parent_of(table, i);
+        parents[i] = parent_of(table, i) as u16;
         i += 1;
     }
 }
 
 // Writes for each row one more than the number of its last child, or than its own: no row from there on is its child.
-pub(crate) fn find_ends(table: &[u32], parents: &[usize], ends: &mut [usize])
+pub(crate) fn find_ends(table: &[u32], parents: &[u16], ends: &mut [u16])
     requires { ⌜ OneDevice (now table) ⌝ }
     requires { ⌜ Parents (now table) (now parents) ⌝ }
     requires { ⌜ length (now ends) ≡ 1024 ⌝ }
@@ -57,9 +57,9 @@ pub(crate) fn find_ends(table: &[u32], parents: &[usize], ends: &mut [usize])
     let n = row_count(table);
     let mut i = 0;
     while i < n {
-        let parent = parents[i];
-        ends[i] = i + 1;
-        ends[parent] = i + 1;
+        let parent = parents[i] as usize;
+        ends[i] = (i + 1) as u16;
+        ends[parent] = (i + 1) as u16;
         i += 1;
     }
 }

@@ -150,6 +150,10 @@ reads-shared-slice-read-end : (t : ℕ) → reads-lts.Need-shared-slice-read-end
 reads-shared-slice-read-end t c =
     let s = c .before .before .before .before .before .before .before .before .before .before .before .before .before .before .before .before in let q : ReadyRows (now (s .args .rule)) (now (s .args .table)) (s .args .b) (s .args .entry) 0 0 = entries.rows-ready (now (s .args .rule)) (now (s .args .table)) (s .args .b) (s .args .entry) (s .pre .1 .0) (c .before .before .before .before .before .before .before .before .before .before .before .before .entry-at .result) (c .before .before .before .before .before .before .before .before .before .before .before .before .entry-at .ensures) (c .before .before .before .before .before .before .if2 .left) (omega (arith, c .before .before .before .before .if4 .left)) 0 0 (omega arith) in omega (arith, c .before .if6 .left, steps.place-few (now (s .args .rule)) (now (s .args .table)) (s .args .b) (s .args .entry) 0 0 q (c .before .before .before .before .before .before .before .before .before .before .before .before .entry-at .result) (c .before .before .before .before .before .before .before .before .before .before .before .before .entry-at .ensures) (c .before .before .before .if5 .taken) _ (c .before .before .place-of .ensures) (c .before .if6 .left), s .pre .1 .1 .sized)
 
+reads-cast-end : (t : ℕ) → reads-lts.Need-cast-end (reads-claims t) (reads-at t) reads′.Post
+reads-cast-end t c =
+    let s = c .before .before .before .before .before .before .before .before .before .before .before .before .before .before .before .before in let q : ReadyRows (now (s .args .rule)) (now (s .args .table)) (s .args .b) (s .args .entry) 0 0 = entries.rows-ready (now (s .args .rule)) (now (s .args .table)) (s .args .b) (s .args .entry) (s .pre .1 .0) (c .before .before .before .before .before .before .before .before .before .before .before .before .entry-at .result) (c .before .before .before .before .before .before .before .before .before .before .before .before .entry-at .ensures) (c .before .before .before .before .before .before .if2 .left) (omega (arith, c .before .before .before .before .if4 .left)) 0 0 (omega arith) in omega (arith, steps.end-few (now (s .args .rule)) (now (s .args .table)) (s .args .b) (s .args .entry) 0 0 q (c .before .before .before .before .before .before .before .before .before .before .before .before .entry-at .result) (c .before .before .before .before .before .before .before .before .before .before .before .before .entry-at .ensures) (c .before .before .before .if5 .taken) _ (c .before .before .place-of .ensures) (c .before .if6 .left) (now (s .args .ends)) (s .pre .1 .1))
+
 reads-sub-sweep : (t : ℕ) → reads-lts.Need-sub-sweep (reads-claims t) (reads-at t) reads′.Post
 reads-sub-sweep t c =
     let s = c .before .before .before .before .before .before .before .before .before .before .before .before .before .before .before .before in let q : ReadyRows (now (s .args .rule)) (now (s .args .table)) (s .args .b) (s .args .entry) 0 0 = entries.rows-ready (now (s .args .rule)) (now (s .args .table)) (s .args .b) (s .args .entry) (s .pre .1 .0) (c .before .before .before .before .before .before .before .before .before .before .before .before .entry-at .result) (c .before .before .before .before .before .before .before .before .before .before .before .before .entry-at .ensures) (c .before .before .before .before .before .before .if2 .left) (omega (arith, c .before .before .before .before .if4 .left)) 0 0 (omega arith) in steps.end-behind (now (s .args .rule)) (now (s .args .table)) (s .args .b) (s .args .entry) 0 0 q (c .before .before .before .before .before .before .before .before .before .before .before .before .entry-at .result) (c .before .before .before .before .before .before .before .before .before .before .before .before .entry-at .ensures) (c .before .before .before .if5 .taken) _ (c .before .before .place-of .ensures) (c .before .if6 .left) (now (s .args .ends)) (s .pre .1 .1)
@@ -280,5 +284,5 @@ sweep-returns-4 t c =
 pub +reads+sweep-spec : {M : Type 1} → statement M
 +reads+sweep-spec =
     close μ-reads μ-sweep
-    (λ t. reads-lts.spec (reads-claims t) (reads-at t) reads′.Post (reads-entry-at-requires t) (reads-cast-a t) (reads-reads-requires t) (reads-flip-requires t) (reads-returns t) (reads-cast-under t) (reads-reads-requires-2 t) (reads-decides-requires t) (reads-join-requires t) (reads-returns-2 t) (reads-reads-requires-3 t) (reads-join-requires-2 t) (reads-returns-3 t) (reads-compared-requires t) (reads-returns-4 t) (reads-sub-place-of t) (reads-place-of-requires t) (reads-bind-requires t) (reads-reads-requires-4 t) (reads-over-requires t) (reads-returns-5 t) (reads-sub-end t) (reads-mul-end t) (reads-shared-slice-read-end t) (reads-sub-sweep t) (reads-sweep-requires t) (reads-returns-6 t) (reads-row-count-requires t) (reads-sweep-requires-2 t) (reads-bind-requires-2 t) (reads-reads-requires-5 t) (reads-over-requires-2 t) (reads-returns-7 t))
+    (λ t. reads-lts.spec (reads-claims t) (reads-at t) reads′.Post (reads-entry-at-requires t) (reads-cast-a t) (reads-reads-requires t) (reads-flip-requires t) (reads-returns t) (reads-cast-under t) (reads-reads-requires-2 t) (reads-decides-requires t) (reads-join-requires t) (reads-returns-2 t) (reads-reads-requires-3 t) (reads-join-requires-2 t) (reads-returns-3 t) (reads-compared-requires t) (reads-returns-4 t) (reads-sub-place-of t) (reads-place-of-requires t) (reads-bind-requires t) (reads-reads-requires-4 t) (reads-over-requires t) (reads-returns-5 t) (reads-sub-end t) (reads-mul-end t) (reads-shared-slice-read-end t) (reads-cast-end t) (reads-sub-sweep t) (reads-sweep-requires t) (reads-returns-6 t) (reads-row-count-requires t) (reads-sweep-requires-2 t) (reads-bind-requires-2 t) (reads-reads-requires-5 t) (reads-over-requires-2 t) (reads-returns-7 t))
     (λ t. sweep-lts.spec (sweep-claims t) (sweep-at t) sweep.Post (sweep-entry-at-requires t) (sweep-cast-place-under t) (sweep-place-under-requires t) (sweep-next-ranged-requires t) (sweep-add-left t) (sweep-sub-left t) (sweep-of-bool-requires t) (sweep-returns t) (sweep-sub-connective t) (sweep-sweep-requires t) (sweep-decides-requires t) (sweep-returns-2 t) (sweep-add-sweep t) (sweep-sub-sweep t) (sweep-sweep-requires-2 t) (sweep-join-requires t) (sweep-returns-3 t) (sweep-add-bind t) (sweep-bind-requires t) (sweep-cast-reads t) (sweep-reads-requires t) (sweep-returns-4 t))
