@@ -8,6 +8,7 @@ use super::readings::flip;
 use super::readings::join;
 use super::readings::of_bool;
 use super::readings::over;
+use super::readings::settles;
 use super::words::entry_at;
 use super::words::row_at;
 use super::words::row_count;
@@ -81,17 +82,19 @@ pub(crate) fn reads(rule: &[u32], table: &[u32], ends: &[u16], b: Bindings, entr
     if under != 0 {
         let place = place_of(b, under - 1);
         if place == 0 {
-            return over(
-                e.kind,
-                Reading::Open,
-                reads(rule, table, ends, b.bind(0), a),
-            );
+            let body = reads(rule, table, ends, b.bind(0), a);
+            return over(e.kind, Reading::Open, body);
         }
         let end = ends[place - 1] as usize;
         return sweep(rule, table, ends, b, entry, place, end - place);
     }
+    let elsewhere = reads(rule, table, ends, b.bind(0), a);
+    // What settles it elsewhere does so for each own root.
+    if decides(3, settles(e.kind, elsewhere)) {
+        return elsewhere;
+    }
     let own = sweep(rule, table, ends, b, entry, 0, row_count(table));
-    over(e.kind, own, reads(rule, table, ends, b.bind(0), a))
+    over(e.kind, own, elsewhere)
 }
 
 // The bodies of those of `rows` rows from `row` on that a quantifier ranges over, together, by halves of those from the first one on.

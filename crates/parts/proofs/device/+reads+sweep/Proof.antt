@@ -32,6 +32,7 @@ use Rattle.parts.proofs.words.row_count.Reads as row-count-reads
 use Rattle.parts.proofs.device.+reads+sweep.{statement}
 use Rattle.parts.proofs.device.+reads+sweep.Tie.{close}
 use Prim.Native.Nat.{ℕ, _<_}
+use Rattle.parts.proofs.readings.settles.Reads as settles-reads
 
 abbrev μ-reads : Measures 3 reads-kinds.ps ℕ
 μ-reads κs a = measures.entry-measure (a .0 .now) (a .1 .0 .now) (a .1 .1 .1 .1 .0)
@@ -52,7 +53,7 @@ abbrev sweep-below : ℕ → In 3 sweep-kinds.ps
 sweep-below t = and 3 sweep-kinds.ps (falls 3 sweep-kinds.ps _<_ μ-sweep t) sweep.Pre
 
 abbrev reads-claims : ℕ → reads-lts.Claims
-reads-claims t = (entry-at-reads.Asked, entry-at-reads.Learnt, reads-below t, reads′.Post, flip-reads.Asked, flip-reads.Learnt, decides-reads.Asked, decides-reads.Learnt, join-reads.Asked, join-reads.Learnt, compared-reads.Asked, compared-reads.Learnt, place-of-reads.Asked, place-of-reads.Learnt, bind-reads.Asked, bind-reads.Learnt, over-reads.Asked, over-reads.Learnt, sweep-below t, sweep.Post, row-count-reads.Asked, row-count-reads.Learnt)
+reads-claims t = (entry-at-reads.Asked, entry-at-reads.Learnt, reads-below t, reads′.Post, flip-reads.Asked, flip-reads.Learnt, decides-reads.Asked, decides-reads.Learnt, join-reads.Asked, join-reads.Learnt, compared-reads.Asked, compared-reads.Learnt, place-of-reads.Asked, place-of-reads.Learnt, bind-reads.Asked, bind-reads.Learnt, over-reads.Asked, over-reads.Learnt, sweep-below t, sweep.Post, settles-reads.Asked, settles-reads.Learnt, row-count-reads.Asked, row-count-reads.Learnt)
 
 reads-entry-at-requires : (t : ℕ) → reads-lts.Need-entry-at-requires (reads-claims t) (reads-at t) reads′.Post
 reads-entry-at-requires t c κs =
@@ -166,29 +167,41 @@ reads-returns-6 : (t : ℕ) → reads-lts.Need-returns-6 (reads-claims t) (reads
 reads-returns-6 t c =
     let s = c .before .before .before .before .before .before .before .before .before .before .before .before .before .before .before .before .before in let q : ReadyRows (now (s .args .rule)) (now (s .args .table)) (s .args .b) (s .args .entry) 0 0 = entries.rows-ready (now (s .args .rule)) (now (s .args .table)) (s .args .b) (s .args .entry) (s .pre .1 .0) (c .before .before .before .before .before .before .before .before .before .before .before .before .before .entry-at .result) (c .before .before .before .before .before .before .before .before .before .before .before .before .before .entry-at .ensures) (c .before .before .before .before .before .before .before .if2 .left) (omega (arith, c .before .before .before .before .before .if4 .left)) 0 0 (omega arith) in steps.under-reads (now (s .args .rule)) (now (s .args .table)) (s .args .b) (s .args .entry) 0 0 q (c .before .before .before .before .before .before .before .before .before .before .before .before .before .entry-at .result) (c .before .before .before .before .before .before .before .before .before .before .before .before .before .entry-at .ensures) (c .before .before .before .before .if5 .taken) _ (c .before .before .before .place-of .ensures) (c .before .before .if6 .left) (now (s .args .ends)) (s .pre .1 .1) _ refl _ (c .sweep .ensures)
 
-reads-row-count-requires : (t : ℕ) → reads-lts.Need-row-count-requires (reads-claims t) (reads-at t) reads′.Post
-reads-row-count-requires t c κs =
-    search needs
-
-reads-sweep-requires-2 : (t : ℕ) → reads-lts.Need-sweep-requires-2 (reads-claims t) (reads-at t) reads′.Post
-reads-sweep-requires-2 t c κs =
-    let s = c .before .before .before .before .before .before .before .before .before .before .before .before .before .before in let q : ReadyRows (now (s .args .rule)) (now (s .args .table)) (s .args .b) (s .args .entry) 0 0 = entries.rows-ready (now (s .args .rule)) (now (s .args .table)) (s .args .b) (s .args .entry) (s .pre .1 .0) (c .before .before .before .before .before .before .before .before .before .before .entry-at .result) (c .before .before .before .before .before .before .before .before .before .before .entry-at .ensures) (c .before .before .before .before .if2 .left) (omega (arith, c .before .before .if4 .left)) 0 0 (omega arith) in (measures.below (s .pre .0) (measures.falls-rows (entryCount (now (s .args .rule))) (rowCount (now (s .args .table))) (s .args .entry) 0 _ (s .pre .1 .0 .inside) (omega (arith, c .row-count .ensures))), (steps.roots-ready (now (s .args .rule)) (now (s .args .table)) (s .args .b) (s .args .entry) 0 0 q (c .before .before .before .before .before .before .before .before .before .before .entry-at .result) (c .before .before .before .before .before .before .before .before .before .before .entry-at .ensures) (c .before .if5 .left) _ (omega (arith, c .row-count .ensures)), s .pre .1 .1))
-
 reads-bind-requires-2 : (t : ℕ) → reads-lts.Need-bind-requires-2 (reads-claims t) (reads-at t) reads′.Post
 reads-bind-requires-2 t c κs =
     search needs
 
 reads-reads-requires-5 : (t : ℕ) → reads-lts.Need-reads-requires-5 (reads-claims t) (reads-at t) reads′.Post
 reads-reads-requires-5 t c κs =
-    let s = c .before .before .before .before .before .before .before .before .before .before .before .before .before .before .before .before in let q : ReadyRows (now (s .args .rule)) (now (s .args .table)) (s .args .b) (s .args .entry) 0 0 = entries.rows-ready (now (s .args .rule)) (now (s .args .table)) (s .args .b) (s .args .entry) (s .pre .1 .0) (c .before .before .before .before .before .before .before .before .before .before .before .before .entry-at .result) (c .before .before .before .before .before .before .before .before .before .before .before .before .entry-at .ensures) (c .before .before .before .before .before .before .if2 .left) (omega (arith, c .before .before .before .before .if4 .left)) 0 0 (omega arith) in let l = entries.body-later (now (s .args .rule)) (now (s .args .table)) (s .args .b) (s .args .entry) 0 0 q (c .before .before .before .before .before .before .before .before .before .before .before .before .entry-at .result) (c .before .before .before .before .before .before .before .before .before .before .before .before .entry-at .ensures) in (measures.below (s .pre .0) (measures.falls-child (entryCount (now (s .args .rule))) (rowCount (now (s .args .table))) (s .args .entry) _ (l .0) (l .1)), (entries.bound-ready (now (s .args .rule)) (now (s .args .table)) (s .args .b) (s .args .entry) 0 0 q (c .before .before .before .before .before .before .before .before .before .before .before .before .entry-at .result) (c .before .before .before .before .before .before .before .before .before .before .before .before .entry-at .ensures) 0 (omega arith) _ (c .bind2 .ensures), s .pre .1 .1))
+    let s = c .before .before .before .before .before .before .before .before .before .before .before .before .before .before in let q : ReadyRows (now (s .args .rule)) (now (s .args .table)) (s .args .b) (s .args .entry) 0 0 = entries.rows-ready (now (s .args .rule)) (now (s .args .table)) (s .args .b) (s .args .entry) (s .pre .1 .0) (c .before .before .before .before .before .before .before .before .before .before .entry-at .result) (c .before .before .before .before .before .before .before .before .before .before .entry-at .ensures) (c .before .before .before .before .if2 .left) (omega (arith, c .before .before .if4 .left)) 0 0 (omega arith) in let l = entries.body-later (now (s .args .rule)) (now (s .args .table)) (s .args .b) (s .args .entry) 0 0 q (c .before .before .before .before .before .before .before .before .before .before .entry-at .result) (c .before .before .before .before .before .before .before .before .before .before .entry-at .ensures) in (measures.below (s .pre .0) (measures.falls-child (entryCount (now (s .args .rule))) (rowCount (now (s .args .table))) (s .args .entry) _ (l .0) (l .1)), (entries.bound-ready (now (s .args .rule)) (now (s .args .table)) (s .args .b) (s .args .entry) 0 0 q (c .before .before .before .before .before .before .before .before .before .before .entry-at .result) (c .before .before .before .before .before .before .before .before .before .before .entry-at .ensures) 0 (omega arith) _ (c .bind2 .ensures), s .pre .1 .1))
+
+reads-settles-requires : (t : ℕ) → reads-lts.Need-settles-requires (reads-claims t) (reads-at t) reads′.Post
+reads-settles-requires t c κs =
+    search needs
+
+reads-decides-requires-2 : (t : ℕ) → reads-lts.Need-decides-requires-2 (reads-claims t) (reads-at t) reads′.Post
+reads-decides-requires-2 t c κs =
+    search needs
+
+reads-returns-7 : (t : ℕ) → reads-lts.Need-returns-7 (reads-claims t) (reads-at t) reads′.Post
+reads-returns-7 t c =
+    let s = c .before .before .before .before .before .before .before .before .before .before .before .before .before .before .before .before .before .before in let q : ReadyRows (now (s .args .rule)) (now (s .args .table)) (s .args .b) (s .args .entry) 0 0 = entries.rows-ready (now (s .args .rule)) (now (s .args .table)) (s .args .b) (s .args .entry) (s .pre .1 .0) (c .before .before .before .before .before .before .before .before .before .before .before .before .before .before .entry-at .result) (c .before .before .before .before .before .before .before .before .before .before .before .before .before .before .entry-at .ensures) (c .before .before .before .before .before .before .before .before .if2 .left) (omega (arith, c .before .before .before .before .before .before .if4 .left)) 0 0 (omega arith) in steps.settled-reads (now (s .args .rule)) (now (s .args .table)) (s .args .b) (s .args .entry) 0 0 q (c .before .before .before .before .before .before .before .before .before .before .before .before .before .before .entry-at .result) (c .before .before .before .before .before .before .before .before .before .before .before .before .before .before .entry-at .ensures) _ (c .before .before .before .before .bind2 .ensures) _ (c .before .before .before .reads5 .ensures) (c .before .before .before .before .before .if5 .left) _ (c .before .before .settles .ensures) _ (c .before .decides2 .ensures) (c .if7 .taken)
+
+reads-row-count-requires : (t : ℕ) → reads-lts.Need-row-count-requires (reads-claims t) (reads-at t) reads′.Post
+reads-row-count-requires t c κs =
+    search needs
+
+reads-sweep-requires-2 : (t : ℕ) → reads-lts.Need-sweep-requires-2 (reads-claims t) (reads-at t) reads′.Post
+reads-sweep-requires-2 t c κs =
+    let s = c .before .before .before .before .before .before .before .before .before .before .before .before .before .before .before .before .before .before .before in let q : ReadyRows (now (s .args .rule)) (now (s .args .table)) (s .args .b) (s .args .entry) 0 0 = entries.rows-ready (now (s .args .rule)) (now (s .args .table)) (s .args .b) (s .args .entry) (s .pre .1 .0) (c .before .before .before .before .before .before .before .before .before .before .before .before .before .before .before .entry-at .result) (c .before .before .before .before .before .before .before .before .before .before .before .before .before .before .before .entry-at .ensures) (c .before .before .before .before .before .before .before .before .before .if2 .left) (omega (arith, c .before .before .before .before .before .before .before .if4 .left)) 0 0 (omega arith) in (measures.below (s .pre .0) (measures.falls-rows (entryCount (now (s .args .rule))) (rowCount (now (s .args .table))) (s .args .entry) 0 _ (s .pre .1 .0 .inside) (omega (arith, c .row-count .ensures))), (steps.roots-ready (now (s .args .rule)) (now (s .args .table)) (s .args .b) (s .args .entry) 0 0 q (c .before .before .before .before .before .before .before .before .before .before .before .before .before .before .before .entry-at .result) (c .before .before .before .before .before .before .before .before .before .before .before .before .before .before .before .entry-at .ensures) (c .before .before .before .before .before .before .if5 .left) _ (omega (arith, c .row-count .ensures)), s .pre .1 .1))
 
 reads-over-requires-2 : (t : ℕ) → reads-lts.Need-over-requires-2 (reads-claims t) (reads-at t) reads′.Post
 reads-over-requires-2 t c κs =
     search needs
 
-reads-returns-7 : (t : ℕ) → reads-lts.Need-returns-7 (reads-claims t) (reads-at t) reads′.Post
-reads-returns-7 t c =
-    let s = c .before .before .before .before .before .before .before .before .before .before .before .before .before .before .before .before .before .before in let q : ReadyRows (now (s .args .rule)) (now (s .args .table)) (s .args .b) (s .args .entry) 0 0 = entries.rows-ready (now (s .args .rule)) (now (s .args .table)) (s .args .b) (s .args .entry) (s .pre .1 .0) (c .before .before .before .before .before .before .before .before .before .before .before .before .before .before .entry-at .result) (c .before .before .before .before .before .before .before .before .before .before .before .before .before .before .entry-at .ensures) (c .before .before .before .before .before .before .before .before .if2 .left) (omega (arith, c .before .before .before .before .before .before .if4 .left)) 0 0 (omega arith) in steps.roots-reads (now (s .args .rule)) (now (s .args .table)) (s .args .b) (s .args .entry) 0 0 q (c .before .before .before .before .before .before .before .before .before .before .before .before .before .before .entry-at .result) (c .before .before .before .before .before .before .before .before .before .before .before .before .before .before .entry-at .ensures) _ (c .before .before .bind2 .ensures) _ (c .before .reads5 .ensures) (c .before .before .before .before .before .if5 .left) _ (c .before .before .before .before .row-count .ensures) _ (c .before .before .before .sweep2 .ensures) _ (c .over2 .ensures)
+reads-returns-8 : (t : ℕ) → reads-lts.Need-returns-8 (reads-claims t) (reads-at t) reads′.Post
+reads-returns-8 t c =
+    let s = c .before .before .before .before .before .before .before .before .before .before .before .before .before .before .before .before .before .before .before .before .before in let q : ReadyRows (now (s .args .rule)) (now (s .args .table)) (s .args .b) (s .args .entry) 0 0 = entries.rows-ready (now (s .args .rule)) (now (s .args .table)) (s .args .b) (s .args .entry) (s .pre .1 .0) (c .before .before .before .before .before .before .before .before .before .before .before .before .before .before .before .before .before .entry-at .result) (c .before .before .before .before .before .before .before .before .before .before .before .before .before .before .before .before .before .entry-at .ensures) (c .before .before .before .before .before .before .before .before .before .before .before .if2 .left) (omega (arith, c .before .before .before .before .before .before .before .before .before .if4 .left)) 0 0 (omega arith) in steps.roots-reads (now (s .args .rule)) (now (s .args .table)) (s .args .b) (s .args .entry) 0 0 q (c .before .before .before .before .before .before .before .before .before .before .before .before .before .before .before .before .before .entry-at .result) (c .before .before .before .before .before .before .before .before .before .before .before .before .before .before .before .before .before .entry-at .ensures) _ (c .before .before .before .before .before .before .before .bind2 .ensures) _ (c .before .before .before .before .before .before .reads5 .ensures) (c .before .before .before .before .before .before .before .before .if5 .left) _ (c .before .before .row-count .ensures) _ (c .before .sweep2 .ensures) _ (c .over2 .ensures)
 
 abbrev sweep-claims : ℕ → sweep-lts.Claims
 sweep-claims t = (entry-at-reads.Asked, entry-at-reads.Learnt, place-under-reads.Asked, place-under-reads.Learnt, next-ranged-reads.Asked, next-ranged-reads.Learnt, of-bool-reads.Asked, of-bool-reads.Learnt, sweep-below t, sweep.Post, decides-reads.Asked, decides-reads.Learnt, join-reads.Asked, join-reads.Learnt, bind-reads.Asked, bind-reads.Learnt, reads-below t, reads′.Post)
@@ -284,5 +297,5 @@ sweep-returns-4 t c =
 pub +reads+sweep-spec : {M : Type 1} → statement M
 +reads+sweep-spec =
     close μ-reads μ-sweep
-    (λ t. reads-lts.spec (reads-claims t) (reads-at t) reads′.Post (reads-entry-at-requires t) (reads-cast-a t) (reads-reads-requires t) (reads-flip-requires t) (reads-returns t) (reads-cast-under t) (reads-reads-requires-2 t) (reads-decides-requires t) (reads-join-requires t) (reads-returns-2 t) (reads-reads-requires-3 t) (reads-join-requires-2 t) (reads-returns-3 t) (reads-compared-requires t) (reads-returns-4 t) (reads-sub-place-of t) (reads-place-of-requires t) (reads-bind-requires t) (reads-reads-requires-4 t) (reads-over-requires t) (reads-returns-5 t) (reads-sub-end t) (reads-mul-end t) (reads-shared-slice-read-end t) (reads-cast-end t) (reads-sub-sweep t) (reads-sweep-requires t) (reads-returns-6 t) (reads-row-count-requires t) (reads-sweep-requires-2 t) (reads-bind-requires-2 t) (reads-reads-requires-5 t) (reads-over-requires-2 t) (reads-returns-7 t))
+    (λ t. reads-lts.spec (reads-claims t) (reads-at t) reads′.Post (reads-entry-at-requires t) (reads-cast-a t) (reads-reads-requires t) (reads-flip-requires t) (reads-returns t) (reads-cast-under t) (reads-reads-requires-2 t) (reads-decides-requires t) (reads-join-requires t) (reads-returns-2 t) (reads-reads-requires-3 t) (reads-join-requires-2 t) (reads-returns-3 t) (reads-compared-requires t) (reads-returns-4 t) (reads-sub-place-of t) (reads-place-of-requires t) (reads-bind-requires t) (reads-reads-requires-4 t) (reads-over-requires t) (reads-returns-5 t) (reads-sub-end t) (reads-mul-end t) (reads-shared-slice-read-end t) (reads-cast-end t) (reads-sub-sweep t) (reads-sweep-requires t) (reads-returns-6 t) (reads-bind-requires-2 t) (reads-reads-requires-5 t) (reads-settles-requires t) (reads-decides-requires-2 t) (reads-returns-7 t) (reads-row-count-requires t) (reads-sweep-requires-2 t) (reads-over-requires-2 t) (reads-returns-8 t))
     (λ t. sweep-lts.spec (sweep-claims t) (sweep-at t) sweep.Post (sweep-entry-at-requires t) (sweep-cast-place-under t) (sweep-place-under-requires t) (sweep-next-ranged-requires t) (sweep-add-left t) (sweep-sub-left t) (sweep-of-bool-requires t) (sweep-returns t) (sweep-sub-connective t) (sweep-sweep-requires t) (sweep-decides-requires t) (sweep-returns-2 t) (sweep-add-sweep t) (sweep-sub-sweep t) (sweep-sweep-requires-2 t) (sweep-join-requires t) (sweep-returns-3 t) (sweep-add-bind t) (sweep-bind-requires t) (sweep-cast-reads t) (sweep-reads-requires t) (sweep-returns-4 t))
