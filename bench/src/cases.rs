@@ -4,7 +4,7 @@ use gabzeril_tests::checker::{POOL, RULE};
 use gabzeril_tests::generate::{files_cost, reading_cost, verdict_cost};
 
 use crate::calls::Call;
-use crate::inputs::{deep, devices, one_device, roots, A, B, C};
+use crate::inputs::{deep, devices, gathered, one_device, roots, A, B, C};
 
 pub struct Case {
     pub call: Call,
@@ -83,6 +83,7 @@ pub fn all() -> Vec<Case> {
     for rows in [64, 256, 1_021, 1_024] {
         on_one_device(&mut cases, rows);
     }
+    parts(&mut cases, &B, &gathered(900), "rule B, roots of three rows in one device");
     for rows in [64, 256, 1_024] {
         on_roots(&mut cases, rows);
     }

@@ -57,6 +57,19 @@ pub fn one_device(rows: u32) -> Vec<u32> {
     table
 }
 
+/// The rows of `devices(rows, 1)` in one device.
+pub fn gathered(rows: u32) -> Vec<u32> {
+    let (mut table, mut root) = (vec![], 0);
+    for (row, words) in (1..).zip(devices(rows, 1).chunks(5)) {
+        if words[2] == 0 {
+            root = row;
+        }
+        let up = if words[2] == 0 { 0 } else { root };
+        table.extend([1, row, up, words[3], words[4]]);
+    }
+    table
+}
+
 /// Roots of one device with distinct values: 0, `step`, and so on.
 pub fn roots(rows: u32, step: u32) -> Vec<u32> {
     (0..rows).flat_map(|row| [1, row + 1, 0, 1, row * step]).collect()
@@ -85,7 +98,9 @@ mod tests {
     #[test]
     fn all_are_accepted() {
         for rows in [64, 256, 512, 1_020, 1_021, 1_024] {
-            for table in [devices(rows, 1), one_device(rows), roots(rows, 1), roots(rows, 1_024)] {
+            for table in
+                [devices(rows, 1), one_device(rows), gathered(rows), roots(rows, 1), roots(rows, 1_024)]
+            {
                 assert_eq!(check_table(&table), Answer::Done(rows as usize));
             }
             assert_eq!(check_rule(&deep(rows)), Answer::Done(23));

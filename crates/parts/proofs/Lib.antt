@@ -7,6 +7,7 @@ pub mod Parentage
 pub mod Climbs
 pub mod Omits
 pub mod Seeking
+pub mod Endings
 pub mod Staying
 pub mod Sent
 pub mod Answered

@@ -4,6 +4,7 @@ use mathlib.Core.Path.{_≡_, refl, sym, ap, _∙_}
 use mathlib.Core.Bool.{Bool, true, false, true≢false}
 use mathlib.Core.List.{List, [], _∷_}
 use native.Mathlib.Omega.{arith}
+use lib.ListN.{getD}
 use lib.Dec.{ltb}
 use borrow.Author.Tests.{ltb-true, ltb-false}
 use Rattle.base.specs.Lists.{select}
@@ -15,7 +16,7 @@ use Rattle.tables.specs.Tables.{isParent, acceptedTable}
 use Rattle.tables.specs.declared.Row.{Row}
 use Rattle.tables.proofs.Accepted.{parent-device, parent-at, same-place, behind}
 use Rattle.logic.proofs.Walks.{select-none, select-one, select-span}
-use Rattle.parts.specs.Reaching.{parentOf}
+use Rattle.parts.specs.Reaching.{parentOf, Parents}
 
 -- one row alone passes a test
 select-only : (P : Row → Bool) (t : List ℕ) (n p : ℕ) → p < n → P (rowAt t p) ≡ true → ((j : ℕ) → j < n → P (rowAt t j) ≡ true → j ≡ p) → select P (rowsFrom t 0 n) ≡ rowAt t p ∷ []
@@ -30,6 +31,9 @@ module _ (t : List ℕ) (ok : acceptedTable t ≡ true) (i : ℕ) (h : i < rowCo
   pub parent-le : parentOf t i ≤ i
   unfolding parentOf
   parent-le = first-le (λ j. isParent (rowAt t i) (rowAt t j)) i
+
+  pub held-le : (parents : List ℕ) → Parents t parents → getD parents i 0 ≤ i
+  held-le parents has = omega (arith, has .holds i h, parent-le)
 
   -- a row without a parent
   pub no-parents : parentOf t i ≡ i → select (isParent (rowAt t i)) (rows t) ≡ []
@@ -46,8 +50,17 @@ module _ (t : List ℕ) (ok : acceptedTable t ≡ true) (i : ℕ) (h : i < rowCo
     unfolding parentOf
     parent-is = at-first (λ j. isParent (rowAt t i) (rowAt t j)) i parent-before
 
-    pub one-parent : select (isParent (rowAt t i)) (rows t) ≡ rowAt t (parentOf t i) ∷ []
-    one-parent = select-only (isParent (rowAt t i)) t (rowCount t) (parentOf t i) (omega (arith, parent-before)) parent-is
-        (λ j l f. same-place t ok j (parentOf t i) l (omega (arith, parent-before))
-        (parent-device (rowAt t i) (rowAt t j) f ∙ sym (parent-device (rowAt t i) (rowAt t (parentOf t i)) parent-is))
-        (parent-at (rowAt t i) (rowAt t j) f ∙ sym (parent-at (rowAt t i) (rowAt t (parentOf t i)) parent-is)))
+  -- a row that is its parent is the one found
+  has-parent : (p : ℕ) → p < rowCount t → isParent (rowAt t i) (rowAt t p) ≡ true → parentOf t i ≡ i → ⊥
+  unfolding parentOf
+  has-parent p l f e = true≢false (sym f ∙ none-before (λ k. isParent (rowAt t i) (rowAt t k)) i p (omega (arith, behind t ok p i l h f)))
+
+  pub only-parent : (p : ℕ) → p < rowCount t → isParent (rowAt t i) (rowAt t p) ≡ true → p ≡ parentOf t i
+  only-parent p l f =
+      let found = parent-is (has-parent p l f) in
+      same-place t ok p (parentOf t i) l (omega (arith, parent-le))
+      (parent-device (rowAt t i) (rowAt t p) f ∙ sym (parent-device (rowAt t i) (rowAt t (parentOf t i)) found))
+      (parent-at (rowAt t i) (rowAt t p) f ∙ sym (parent-at (rowAt t i) (rowAt t (parentOf t i)) found))
+
+  pub one-parent : (parentOf t i ≡ i → ⊥) → select (isParent (rowAt t i)) (rows t) ≡ rowAt t (parentOf t i) ∷ []
+  one-parent n = select-only (isParent (rowAt t i)) t (rowCount t) (parentOf t i) (omega (arith, parent-before n)) (parent-is n) only-parent

@@ -1,12 +1,12 @@
 -- The search for a row's parent by halves, and the arrays that are filled row by row. Assumes nothing.
 use Prim.Native.Nat.{ℕ, zero, suc, _+_, _-_, _/_, _<_, _≤_}
-use mathlib.Core.Path.{_≡_, refl, sym, ap, _∙_}
+use mathlib.Core.Path.{_≡_, sym, ap, _∙_}
 use mathlib.Core.Logic.{⊎-elim}
 use mathlib.Core.Bool.{Bool, true, false, _&&_, true≢false}
 use mathlib.Core.List.{List}
 use native.Mathlib.Nat.{eq-or-lt-of-le}
 use native.Mathlib.Omega.{arith}
-use lib.ListN.{length, getD, set, replicate, length-set}
+use lib.ListN.{length, getD, set, length-set}
 use lib.Seq.{getD-set-same, getD-set-other}
 use lib.Dec.{ltb, eqb}
 use borrow.Author.Tests.{ltb-true, ltb-false, eq-eqb}
@@ -107,8 +107,8 @@ module _ (t : List ℕ) (one : OneDevice t) (i : ℕ) (h : i < rowCount t) where
 
 -- ---- an array filled row by row
 module _ (f : ℕ → ℕ) where
-  pub fill-begin : Holds f (replicate 1024 0) 0
-  fill-begin = record { sized = refl; holds = λ j h. absurd (omega arith) }
+  pub fill-begin : (xs : List ℕ) → length xs ≡ 1024 → Holds f xs 0
+  fill-begin xs l = record { sized = l; holds = λ j h. absurd (omega arith) }
 
   pub fill-more : (xs : List ℕ) (i x : ℕ) → Holds f xs i → i < 1024 → x ≡ f i → Holds f (set xs i x) (i + 1)
   fill-more xs i x s l e = record {

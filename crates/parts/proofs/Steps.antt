@@ -13,7 +13,7 @@ use Rattle.tables.specs.Words.{rowAt, rowCount, rows, rowsFrom, entryAt, entryC
 use Rattle.tables.specs.Tables.{acceptedTable, isParent}
 use Rattle.tables.specs.declared.Row.{Row}
 use Rattle.tables.specs.declared.Entry.{Entry}
-use Rattle.tables.proofs.Accepted.{behind}
+use Rattle.tables.proofs.Accepted.{behind, few-rows}
 use Rattle.logic.specs.Formulas.{Quantifier, overOf, formulaAt}
 use Rattle.logic.specs.Verdict.{Place, nothing, bound, bind, named, hangs, ranges, settled}
 use Rattle.logic.specs.Reading as meaning
@@ -25,11 +25,12 @@ use Rattle.engine.specs.declared.bindings.Bindings.{Bindings}
 use Rattle.engine.proofs.Bound.{depth-bind, meant-bind, place-row}
 use Rattle.engine.proofs.Opened.{Opened, not-formula, joined-formula, quantified-formula, compared-formula}
 use Rattle.engine.proofs.Steps.{entry, room, part-ready, ranged-none, ranged-halves, ranged-one}
-use Rattle.parts.specs.Codes.{codeOf, ofBool, flipped, joinCode, endsLeft, overKind}
+use Rattle.parts.specs.Codes.{codeOf, ofBool, flipped, joinCode, endsLeft, overKind, settlesKind}
 use Rattle.parts.specs.Device.{placeUnder, hangsAt, rangedAt, comparedAt, readAt, bodyAt, sweepAt, ReadySweep}
+use Rattle.parts.specs.Reaching.{Ends}
 use Rattle.parts.specs.declared.readings.Reading.{Reading}
 use Rattle.parts.specs.declared.readings.Reading.the-variants.{True, False, Open, Both}
-use Rattle.parts.proofs.Codes.{flips, join-code, join-decided, both-code, both-decided, settled-code, roots-read, over-code}
+use Rattle.parts.proofs.Codes.{flips, join-code, join-decided, both-code, both-decided, settled-code, settles-code, roots-read, over-code}
 use Rattle.parts.proofs.Folding.{under-append, under-one, first-test}
 use Rattle.parts.proofs.Spans.{at-nothing, at-row, place-named, ranges-place}
 
@@ -142,6 +143,18 @@ open-reads : (z : Bool) → meaning.reads z meaning.undecided ≡ false
 open-reads true = refl
 open-reads false = refl
 
+certain-reads : (z : Bool) (r : meaning.Reading) → meaning.reads z r ≡ true → r ≡ meaning.certain z
+certain-reads true (meaning.certain true) e = refl
+certain-reads true (meaning.certain false) e = absurd (true≢false (sym e))
+certain-reads true meaning.undecided e = absurd (true≢false (sym e))
+certain-reads false (meaning.certain true) e = absurd (true≢false (sym e))
+certain-reads false (meaning.certain false) e = refl
+certain-reads false meaning.undecided e = absurd (true≢false (sym e))
+
+ends-flipped : (z : Bool) → endsLeft 3 (ofBool z) ≡ z
+ends-flipped true = refl
+ends-flipped false = refl
+
 module _ (rule t : List ℕ) (b : Bindings) (e i k : ℕ) (ready : ReadyRows rule t b e i k) (x : Entry) (x-is : x ≡ entryAt rule e) where
   abbrev q-at : Entry → Quantifier
   q-at z = quantifierOf (z .kind)
@@ -158,11 +171,14 @@ module _ (rule t : List ℕ) (b : Bindings) (e i k : ℕ) (ready : ReadyRows rul
 
   -- the body with its own variable elsewhere, and what stands for the own roots together
   module _ (b′ : Bindings) (b-is : b′ ≡ bindAt b 0) (y : Reading) (y-is : y ≡ readAt rule t b′ (x .a)) where
+    y-at : y ≡ codeOf (body nothing)
+    y-at = y-is ∙ body-reads rule t b e i k ready x x-is 0 b′ b-is
+
     over-is : (own-reads : meaning.Reading) → (meaning.reads (not (settled (q-at (entryAt rule e)))) own-reads ≡ true → meaning.secondTest (q-at (entryAt rule e)) body ≡ true → ⊥)
         → (o : Reading) → o ≡ overKind (x .kind) (codeOf own-reads) y → o ≡ codeOf (roots-read (q-at (entryAt rule e)) own-reads (body nothing))
     over-is own-reads excluded o o-is =
         o-is
-        ∙ ap₂ (λ (z : Entry) (w : Reading). overKind (z .kind) (codeOf own-reads) w) x-is (y-is ∙ body-reads rule t b e i k ready x x-is 0 b′ b-is)
+        ∙ ap₂ (λ (z : Entry) (w : Reading). overKind (z .kind) (codeOf own-reads) w) x-is y-at
         ∙ over-code (entryAt rule e .kind) (ready .over-four) (ready .below-seven) own-reads (body nothing) excluded
 
     pub roots-reads : x .b ≡ 0 → (m : ℕ) → m ≡ rowCount t → (s : Reading) → s ≡ sweepAt rule t b e 0 m → (o : Reading) → o ≡ overKind (x .kind) s y → o ≡ readAt rule t b e
@@ -175,6 +191,23 @@ module _ (rule t : List ℕ) (b : Bindings) (e i k : ℕ) (ready : ReadyRows rul
         excluded : meaning.reads (not (settled (q-at (entryAt rule e)))) (meaning.underBound (q-at (entryAt rule e)) body own) ≡ true → meaning.secondTest (q-at (entryAt rule e)) body ≡ true → ⊥
         excluded f g = true≢false (sym f ∙ sym (first-test (q-at (entryAt rule e)) body own)
             ∙ tests-exclude (q-at (entryAt rule e)) (formulaAt rule (entryAt rule e .a)) (rows t) (b .depth) (meant t b) own g)
+
+    -- settled elsewhere
+    pub settled-reads : x .b ≡ 0 → (s : Reading) → s ≡ settlesKind (x .kind) y → (d : Bool) → d ≡ endsLeft 3 s → d ≡ true → y ≡ readAt rule t b e
+    settled-reads z s s-is d d-is f =
+        y-at ∙ ap codeOf (certain-reads (settled (q-at (entryAt rule e))) (body nothing) second)
+        ∙ sym (ap (λ (c : Bool). codeOf (cond c (meaning.certain (settled (q-at (entryAt rule e)))) meaning.undecided)) second)
+        ∙ sym (ap (λ (c : Bool). codeOf (cond c (meaning.certain (not (settled (q-at (entryAt rule e))))) (meaning.underElsewhere (q-at (entryAt rule e)) body)))
+        (tests-exclude (q-at (entryAt rule e)) (formulaAt rule (entryAt rule e .a)) (rows t) (b .depth) (meant t b) own second))
+        ∙ ap (λ (n : ℕ). codeOf (meaning.quantify (q-at (entryAt rule e)) (overOf n) (meant t b) body own)) (sym (sym (ap (λ (w : Entry). w .b) x-is) ∙ z))
+        ∙ sym quantified-reads
+      where
+        second : meaning.secondTest (q-at (entryAt rule e)) body ≡ true
+        second =
+            sym (ends-flipped (meaning.secondTest (q-at (entryAt rule e)) body))
+            ∙ ap (endsLeft 3) (sym (settles-code (entryAt rule e .kind) (ready .over-four) (ready .below-seven) (body nothing)))
+            ∙ ap₂ (λ (w : Entry) (r : Reading). endsLeft 3 (settlesKind (w .kind) r)) (sym x-is) (sym y-at)
+            ∙ ap (endsLeft 3) (sym s-is) ∙ sym d-is ∙ f
 
     pub elsewhere-reads : (x .b ≡ 0 → ⊥) → (p : ℕ) → p ≡ getD (b .row) (x .b - 1) 0 → p ≡ 0 → (o : Reading) → o ≡ overKind (x .kind) Open y → o ≡ readAt rule t b e
     elsewhere-reads u p p-is z o o-is =
@@ -220,12 +253,33 @@ module _ (rule t : List ℕ) (b : Bindings) (e i k : ℕ) (ready : ReadyRows rul
       here = λ z. subst (λ (w : Entry). 0 < placeUnder (b .row) (w .b)) x-is (omega (arith, place-named (b .row) (x .b) p u p-is, h));
     }
 
-    pub under-reads : (m : ℕ) → m ≡ rowCount t → (o : Reading) → o ≡ sweepAt rule t b e p (m - p) → o ≡ readAt rule t b e
-    under-reads m m-is o o-is =
-        o-is ∙ ap (λ (n : ℕ). sweepAt rule t b e p (n - p)) m-is
-        ∙ ap (λ (l : List Row). codeOf (meaning.underBound (q-at (entryAt rule e)) body l))
-        (select-span (rangesAt t b (entryAt rule e)) t (rowCount t) p (rowCount t - p) (omega (arith, parent-inside)) none-earlier (λ j a c. absurd (omega (arith, parent-inside))))
-        ∙ ap (λ (w : Place). codeOf (meaning.underPlace (q-at (entryAt rule e)) w body own)) (sym at-parent)
-        ∙ ap (λ (n : ℕ). codeOf (meaning.quantify (q-at (entryAt rule e)) (overOf n) (meant t b) body own)) (let s : suc (x .b - 1) ≡ x .b = omega arith in s)
-        ∙ ap (λ (w : Entry). codeOf (meaning.quantify (q-at (entryAt rule e)) (overOf (w .b)) (meant t b) body own)) x-is
-        ∙ sym quantified-reads
+    pub place-few : p ≤ 1024
+    place-few = omega (arith, parent-inside, few-rows t (ready .ready .pool-accepted))
+
+    -- and no row from their end on is
+    module _ (ends : List ℕ) (has-ends : Ends t ends) where
+      pub end-behind : p ≤ getD ends (p - 1) 0
+      end-behind = omega (arith, h, has-ends .behind (p - 1) (omega (arith, parent-inside)))
+
+      pub end-inside : getD ends (p - 1) 0 ≤ rowCount t
+      end-inside = has-ends .within (p - 1) (omega (arith, parent-inside))
+
+      pub end-few : getD ends (p - 1) 0 ≤ 1024
+      end-few = omega (arith, end-inside, few-rows t (ready .ready .pool-accepted))
+
+      none-later : (j : ℕ) → getD ends (p - 1) 0 ≤ j → j < rowCount t → rangesAt t b (entryAt rule e) (rowAt t j) ≡ false
+      none-later j a c = either (rangesAt t b (entryAt rule e) (rowAt t j))
+          (λ f. absurd (true≢false (sym (and-left (isParent (rowAt t j) (rowAt t (p - 1))) (named (x .c) (rowAt t j)) (sym (ranges-is (rowAt t j)) ∙ f))
+          ∙ has-ends .none-later (p - 1) j (omega (arith, parent-inside)) a c)))
+          (λ f. f)
+
+      pub under-reads : (m : ℕ) → m ≡ getD ends (p - 1) 0 → (o : Reading) → o ≡ sweepAt rule t b e p (m - p) → o ≡ readAt rule t b e
+      under-reads m m-is o o-is =
+          o-is
+          ∙ ap (λ (l : List Row). codeOf (meaning.underBound (q-at (entryAt rule e)) body l))
+          (select-span (rangesAt t b (entryAt rule e)) t (rowCount t) p (m - p) (omega (arith, m-is, end-behind, end-inside)) none-earlier
+          (λ j a c. none-later j (omega (arith, m-is, end-behind)) c))
+          ∙ ap (λ (w : Place). codeOf (meaning.underPlace (q-at (entryAt rule e)) w body own)) (sym at-parent)
+          ∙ ap (λ (n : ℕ). codeOf (meaning.quantify (q-at (entryAt rule e)) (overOf n) (meant t b) body own)) (let s : suc (x .b - 1) ≡ x .b = omega arith in s)
+          ∙ ap (λ (w : Entry). codeOf (meaning.quantify (q-at (entryAt rule e)) (overOf (w .b)) (meant t b) body own)) x-is
+          ∙ sym quantified-reads

@@ -34,6 +34,17 @@ pub record Holds (f : ℕ → ℕ) (xs : List ℕ) (n : ℕ) : Type 0 where
 abbrev pub Parents : List ℕ → List ℕ → Type 0
 Parents t parents = Holds (parentOf t) parents (rowCount t)
 
+-- a work array says of each of the first n rows where its children among them end: behind the row itself, and behind the last of them
+pub record EndsWithin (t ends : List ℕ) (n : ℕ) : Type 0 where
+  pub sized : length ends ≡ 1024
+  pub behind : (p : ℕ) → p < n → p < getD ends p 0
+  pub within : (p : ℕ) → p < n → getD ends p 0 ≤ n
+  pub none-later : (p j : ℕ) → p < n → getD ends p 0 ≤ j → j < n → isParent (rowAt t j) (rowAt t p) ≡ false
+
+-- of all rows
+abbrev pub Ends : List ℕ → List ℕ → Type 0
+Ends t ends = EndsWithin t ends (rowCount t)
+
 -- ---- quantifiers around an entry
 abbrev pub noBinders : Binders
 noBinders = record { entry = replicate nestingLimit 0; depth = 0 }

@@ -78,7 +78,7 @@ fn reached_from(b: Bindings, variable: usize, row: usize) -> Chain
 pub(crate) fn climb(
     rule: &[u32],
     table: &[u32],
-    parents: &[usize],
+    parents: &[u16],
     by: Binders,
     variable: usize,
     entry: usize,
@@ -98,7 +98,7 @@ pub(crate) fn climb(
         }
         return reached_from(Bindings::none(), variable, row);
     }
-    let parent = parents[row];
+    let parent = parents[row] as usize;
     if parent == row {
         return not_reached();
     }

@@ -8,6 +8,7 @@ use super::readings::flip;
 use super::readings::join;
 use super::readings::of_bool;
 use super::readings::over;
+use super::readings::settles;
 use super::words::entry_at;
 use super::words::row_at;
 use super::words::row_count;
@@ -19,6 +20,7 @@ ghost use Rattle.logic.specs.Verdict.{compare};
 ghost use Rattle.engine.specs.Ready.{Placed, comparisonOf, Ready};
 ghost use Rattle.parts.specs.Codes.{codeOf};
 ghost use Rattle.parts.specs.Device.{comparedAt, readAt, sweepAt, ReadySweep};
+ghost use Rattle.parts.specs.Reaching.{Ends};
 
 // A comparison of kind 7, 8 or 9.
 fn compare_values(kind: u32, x: u32, y: u32) -> bool
@@ -56,22 +58,23 @@ fn compared(table: &[u32], b: Bindings, e: Entry) -> Reading
 }
 
 // What an entry reads.
-pub(crate) fn reads(rule: &[u32], table: &[u32], b: Bindings, entry: usize) -> Reading
+pub(crate) fn reads(rule: &[u32], table: &[u32], ends: &[u16], b: Bindings, entry: usize) -> Reading
     requires { ⌜ Ready (now rule) (now table) b entry ⌝ }
+    requires { ⌜ Ends (now table) (now ends) ⌝ }
     ensures { λ r. ⌜ r ≡ readAt (now (rule .entry)) (now (table .entry)) b entry ⌝ }
 {
     let e = entry_at(rule, entry);
     let a = e.a as usize;
     if e.kind == 1 {
-        return flip(reads(rule, table, b, a));
+        return flip(reads(rule, table, ends, b, a));
     }
     let under = e.b as usize;
     if e.kind < 5 {
-        let left = reads(rule, table, b, a);
+        let left = reads(rule, table, ends, b, a);
         if decides(e.kind, left) {
             return join(e.kind, left, Reading::Open);
         }
-        return join(e.kind, left, reads(rule, table, b, under));
+        return join(e.kind, left, reads(rule, table, ends, b, under));
     }
     if 6 < e.kind {
         return compared(table, b, e);
@@ -79,17 +82,33 @@ pub(crate) fn reads(rule: &[u32], table: &[u32], b: Bindings, entry: usize) -> R
     if under != 0 {
         let place = place_of(b, under - 1);
         if place == 0 {
-            return over(e.kind, Reading::Open, reads(rule, table, b.bind(0), a));
+            let body = reads(rule, table, ends, b.bind(0), a);
+            return over(e.kind, Reading::Open, body);
         }
-        return sweep(rule, table, b, entry, place, row_count(table) - place);
+        let end = ends[place - 1] as usize;
+        return sweep(rule, table, ends, b, entry, place, end - place);
     }
-    let own = sweep(rule, table, b, entry, 0, row_count(table));
-    over(e.kind, own, reads(rule, table, b.bind(0), a))
+    let elsewhere = reads(rule, table, ends, b.bind(0), a);
+    // What settles it elsewhere does so for each own root.
+    if decides(3, settles(e.kind, elsewhere)) {
+        return elsewhere;
+    }
+    let own = sweep(rule, table, ends, b, entry, 0, row_count(table));
+    over(e.kind, own, elsewhere)
 }
 
 // The bodies of those of `rows` rows from `row` on that a quantifier ranges over, together, by halves of those from the first one on.
-fn sweep(rule: &[u32], table: &[u32], b: Bindings, entry: usize, row: usize, rows: usize) -> Reading
+fn sweep(
+    rule: &[u32],
+    table: &[u32],
+    ends: &[u16],
+    b: Bindings,
+    entry: usize,
+    row: usize,
+    rows: usize,
+) -> Reading
     requires { ⌜ ReadySweep (now rule) (now table) b entry row rows ⌝ }
+    requires { ⌜ Ends (now table) (now ends) ⌝ }
     ensures { λ r. ⌜ r ≡ sweepAt (now (rule .entry)) (now (table .entry)) b entry row rows ⌝ }
 {
     let e = entry_at(rule, entry);
@@ -101,15 +120,15 @@ fn sweep(rule: &[u32], table: &[u32], b: Bindings, entry: usize, row: usize, row
     if 1 < left {
         let connective = e.kind - 3;
         let half = left / 2;
-        let near = sweep(rule, table, b, entry, first, half);
+        let near = sweep(rule, table, ends, b, entry, first, half);
         if decides(connective, near) {
             return near;
         }
         return join(
             connective,
             near,
-            sweep(rule, table, b, entry, first + half, left - half),
+            sweep(rule, table, ends, b, entry, first + half, left - half),
         );
     }
-    reads(rule, table, b.bind(first + 1), e.a as usize)
+    reads(rule, table, ends, b.bind(first + 1), e.a as usize)
 }

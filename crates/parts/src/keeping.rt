@@ -1,7 +1,8 @@
 // Which rows of a device's table its part keeps.
 use super::chains::Binders;
 use super::omitting::omits;
-use super::parents::parents_of;
+use super::parents::find_ends;
+use super::parents::find_parents;
 use super::readings::Reading;
 use super::readings::flip;
 use super::words::row_count;
@@ -11,6 +12,7 @@ ghost use lib.ListN.{length, getD};
 ghost use Rattle.tables.specs.Words.{rowAt, rows};
 ghost use Rattle.tables.specs.Rules.{one};
 ghost use Rattle.logic.specs.Formulas.{formula};
+ghost use Rattle.parts.specs.Reaching.{Ends};
 ghost use Rattle.parts.specs.Keeping.{numberOf, leftOut, stays, ReadyPart, ReadyRow, Keeps};
 
 // A byte for a row: 1 stays, 0 does not; 2 is refusal 15.
@@ -26,12 +28,12 @@ fn number_of(x: Reading) -> u8
 }
 
 // Whether a row has a parent, and that does not stay.
-fn parent_left_out(parents: &[usize], kept: &[u8], row: usize) -> bool
+fn parent_left_out(parents: &[u16], kept: &[u8], row: usize) -> bool
     requires { ⌜ row < length (now parents) ⌝ }
     requires { ⌜ getD (now parents) row 0 < length (now kept) ⌝ }
     ensures { λ r. ⌜ r ≡ leftOut (now (parents .entry)) (now (kept .entry)) row ⌝ }
 {
-    let parent = parents[row];
+    let parent = parents[row] as usize;
     if parent == row {
         return false;
     }
@@ -42,12 +44,14 @@ fn parent_left_out(parents: &[usize], kept: &[u8], row: usize) -> bool
 fn row_stays(
     rule: &[u32],
     table: &[u32],
-    parents: &[usize],
+    parents: &[u16],
+    ends: &[u16],
     kept: &[u8],
     mode: u32,
     row: usize,
 ) -> u8
     requires { ⌜ ReadyRow (now rule) (now table) (now parents) (now kept) mode row ⌝ }
+    requires { ⌜ Ends (now table) (now ends) ⌝ }
     ensures { λ r. ⌜ r ≡ one (stays mode (formula (now (rule .entry))) (rows (now (table .entry))) (rowAt (now (table .entry)) row)) ⌝ }
 {
     if parent_left_out(parents, kept, row) {
@@ -56,7 +60,7 @@ fn row_stays(
     if mode == 1 {
         return 1;
     }
-    number_of(flip(omits(rule, table, parents, Binders::none(), 0, row, mode)))
+    number_of(flip(omits(rule, table, parents, ends, Binders::none(), 0, row, mode)))
 }
 
 // A byte for each row, and whether refusal 15 was met.
@@ -69,12 +73,15 @@ pub(crate) fn kept_rows(rule: &[u32], table: &[u32], mode: u32) -> Kept
     requires { ⌜ ReadyPart (now rule) (now table) ⌝ }
     ensures { λ r. ⌜ Keeps (now (rule .entry)) (now (table .entry)) mode r ⌝ }
 {
-    let parents = parents_of(table);
+    let mut parents = [0u16; 1024];
+    find_parents(table, &mut parents);
+    let mut ends = [0u16; 1024];
+    find_ends(table, &parents, &mut ends);
     let n = row_count(table);
     let mut kept = [0u8; 1024];
     let mut i = 0;
     while i < n {
-        let x = row_stays(rule, table, &parents, &kept, mode, i);
+        let x = row_stays(rule, table, &parents, &ends, &kept, mode, i);
         if x == 2 {
             return Kept {
                 contradicted: true,

@@ -13,12 +13,21 @@ ghost use Rattle.tables.specs.Words.{rows};
 ghost use Rattle.logic.specs.Formulas.{formulaAt};
 ghost use Rattle.engine.specs.Ready.{quantifierOf};
 ghost use Rattle.parts.specs.Codes.{ofBool};
-ghost use Rattle.parts.specs.Reaching.{chainOf};
+ghost use Rattle.parts.specs.Reaching.{chainOf, Ends};
 ghost use Rattle.parts.specs.Omitting.{letsOut, ReadyBody, omittedAt, ReadyOmit};
 
 // Whether a quantifier with that body lets a row be left out, given how it reaches the row.
-fn lets_out(rule: &[u32], table: &[u32], chain: Chain, kind: u32, body: usize, mode: u32) -> Reading
+fn lets_out(
+    rule: &[u32],
+    table: &[u32],
+    ends: &[u16],
+    chain: Chain,
+    kind: u32,
+    body: usize,
+    mode: u32,
+) -> Reading
     requires { ⌜ ReadyBody (now rule) (now table) chain kind body ⌝ }
+    requires { ⌜ Ends (now table) (now ends) ⌝ }
     ensures { λ r. ⌜ r ≡ ofBool (all (letsOut mode (quantifierOf kind) (formulaAt (now (rule .entry)) body) (rows (now (table .entry))) (chain .bound .depth)) (chainOf (now (table .entry)) chain)) ⌝ }
 {
     if chain.found {
@@ -26,7 +35,7 @@ fn lets_out(rule: &[u32], table: &[u32], chain: Chain, kind: u32, body: usize, m
             return Reading::False;
         }
         let b = chain.bound;
-        return settles(kind, reads(rule, table, b, body));
+        return settles(kind, reads(rule, table, ends, b, body));
     }
     Reading::True
 }
@@ -35,34 +44,36 @@ fn lets_out(rule: &[u32], table: &[u32], chain: Chain, kind: u32, body: usize, m
 pub(crate) fn omits(
     rule: &[u32],
     table: &[u32],
-    parents: &[usize],
+    parents: &[u16],
+    ends: &[u16],
     by: Binders,
     entry: usize,
     row: usize,
     mode: u32,
 ) -> Reading
     requires { ⌜ ReadyOmit (now rule) (now table) (now parents) by entry row ⌝ }
+    requires { ⌜ Ends (now table) (now ends) ⌝ }
     ensures { λ r. ⌜ r ≡ ofBool (omittedAt mode (now (rule .entry)) (now (table .entry)) by entry row) ⌝ }
 {
     let e = entry_at(rule, entry);
     let a = e.a as usize;
     if e.kind == 1 {
-        return omits(rule, table, parents, by, a, row, mode);
+        return omits(rule, table, parents, ends, by, a, row, mode);
     }
     if e.kind < 5 {
-        let left = omits(rule, table, parents, by, a, row, mode);
+        let left = omits(rule, table, parents, ends, by, a, row, mode);
         if decides(2, left) {
             return left;
         }
-        return omits(rule, table, parents, by, e.b as usize, row, mode);
+        return omits(rule, table, parents, ends, by, e.b as usize, row, mode);
     }
     if 6 < e.kind {
         return Reading::True;
     }
     let chain = climb(rule, table, parents, by, by.depth, entry, row);
-    let own = lets_out(rule, table, chain, e.kind, a, mode);
+    let own = lets_out(rule, table, ends, chain, e.kind, a, mode);
     if decides(2, own) {
         return own;
     }
-    omits(rule, table, parents, by.with(entry), a, row, mode)
+    omits(rule, table, parents, ends, by.with(entry), a, row, mode)
 }

@@ -3,8 +3,9 @@ use super::words::row_at;
 use super::words::row_count;
 ghost use mathlib.Core.Path.{_≡_};
 ghost use Prim.Native.Nat.{_<_};
+ghost use lib.ListN.{length};
 ghost use Rattle.tables.specs.Words.{rowCount};
-ghost use Rattle.parts.specs.Reaching.{parentOf, Parents};
+ghost use Rattle.parts.specs.Reaching.{parentOf, Parents, Ends};
 ghost use Rattle.parts.specs.Keeping.{OneDevice};
 
 // The number of a row's parent, or the row's own where it has none. Rows of one device rise by `at`: it is looked for by halves.
@@ -32,17 +33,33 @@ fn parent_of(table: &[u32], row: usize) -> usize
     row
 }
 
-// Each row's.
-pub(crate) fn parents_of(table: &[u32]) -> [usize; 1024]
+// Writes each row's.
+pub(crate) fn find_parents(table: &[u32], parents: &mut [u16])
     requires { ⌜ OneDevice (now table) ⌝ }
-    ensures { λ r. ⌜ Parents (now (table .entry)) r ⌝ }
+    requires { ⌜ length (now parents) ≡ 1024 ⌝ }
+    ensures { λ _. ⌜ Parents (now (table .entry)) (now (parents .exit)) ⌝ }
 {
     let n = row_count(table);
-    let mut parents = [0usize; 1024];
     let mut i = 0;
     while i < n {
-        parents[i] = parent_of(table, i);
+        parents[i] = parent_of(table, i) as u16;
         i += 1;
     }
-    parents
+}
+
+// Writes for each row one more than the number of its last child, or than its own: no row from there on is its child.
+pub(crate) fn find_ends(table: &[u32], parents: &[u16], ends: &mut [u16])
+    requires { ⌜ OneDevice (now table) ⌝ }
+    requires { ⌜ Parents (now table) (now parents) ⌝ }
+    requires { ⌜ length (now ends) ≡ 1024 ⌝ }
+    ensures { λ _. ⌜ Ends (now (table .entry)) (now (ends .exit)) ⌝ }
+{
+    let n = row_count(table);
+    let mut i = 0;
+    while i < n {
+        let parent = parents[i] as usize;
+        ends[i] = (i + 1) as u16;
+        ends[parent] = (i + 1) as u16;
+        i += 1;
+    }
 }

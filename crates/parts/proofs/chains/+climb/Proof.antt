@@ -19,6 +19,8 @@ use Rattle.parts.proofs.words.entry_at.Reads as entry-at-reads
 use Rattle.parts.proofs.words.row_at.Reads as row-at-reads
 use Rattle.parts.proofs.chains.+climb.{statement}
 use Rattle.parts.proofs.chains.+climb.Tie.{close}
+use Rattle.parts.proofs.Parentage.{held-le}
+use Prim.Native.Nat.{ℕ, _<_}
 
 abbrev μ-climb : Measures 3 climb-kinds.ps ℕ
 μ-climb κs a = a .1 .1 .1 .1 .0
@@ -76,6 +78,10 @@ climb-shared-slice-read-parent : (t : ℕ) → climb-lts.Need-shared-slice-read-
 climb-shared-slice-read-parent t c =
     let s = c .before .before .before .before .before .before .before .before .before .before .before in omega (arith, climbs.few (now (s .args .rule)) (now (s .args .table)) (now (s .args .parents)) (s .args .by .entry) (s .args .variable) (s .args .entry) (s .args .row) (s .pre .1), s .pre .1 .has-parents .sized)
 
+climb-cast-parent : (t : ℕ) → climb-lts.Need-cast-parent (climb-claims t) (climb-at t) climb.Post
+climb-cast-parent t c =
+    let s = c .before .before .before .before .before .before .before .before .before .before .before in omega (arith, climbs.few (now (s .args .rule)) (now (s .args .table)) (now (s .args .parents)) (s .args .by .entry) (s .args .variable) (s .args .entry) (s .args .row) (s .pre .1), held-le (now (s .args .table)) (s .pre .1 .table-accepted) (s .args .row) (s .pre .1 .row-inside) (now (s .args .parents)) (s .pre .1 .has-parents))
+
 climb-not-reached-requires-3 : (t : ℕ) → climb-lts.Need-not-reached-requires-3 (climb-claims t) (climb-at t) climb.Post
 climb-not-reached-requires-3 t c κs =
     search needs
@@ -119,4 +125,4 @@ climb-returns-6 t c =
 pub +climb-spec : {M : Type 1} → statement M
 +climb-spec =
     close μ-climb
-    (λ t. climb-lts.spec (climb-claims t) (climb-at t) climb.Post (climb-entry-at-requires t) (climb-row-at-requires t) (climb-not-reached-requires t) (climb-returns t) (climb-not-reached-requires-2 t) (climb-returns-2 t) (climb-none-requires t) (climb-reached-from-requires t) (climb-returns-3 t) (climb-mul-parent t) (climb-shared-slice-read-parent t) (climb-not-reached-requires-3 t) (climb-returns-4 t) (climb-cast-above t) (climb-sub-above t) (climb-of-requires t) (climb-climb-requires t) (climb-reached-from-requires-2 t) (climb-returns-5 t) (climb-not-reached-requires-4 t) (climb-returns-6 t))
+    (λ t. climb-lts.spec (climb-claims t) (climb-at t) climb.Post (climb-entry-at-requires t) (climb-row-at-requires t) (climb-not-reached-requires t) (climb-returns t) (climb-not-reached-requires-2 t) (climb-returns-2 t) (climb-none-requires t) (climb-reached-from-requires t) (climb-returns-3 t) (climb-mul-parent t) (climb-shared-slice-read-parent t) (climb-cast-parent t) (climb-not-reached-requires-3 t) (climb-returns-4 t) (climb-cast-above t) (climb-sub-above t) (climb-of-requires t) (climb-climb-requires t) (climb-reached-from-requires-2 t) (climb-returns-5 t) (climb-not-reached-requires-4 t) (climb-returns-6 t))
