@@ -14,8 +14,20 @@ pub fn rules() -> Vec<Vec<u32>> {
     for kind in [2, 3, 4] {
         rules.extend([deep_right(kind), deep_left(kind)]);
     }
-    rules.extend([over_connectives(5, 2, 9), over_connectives(6, 3, 8)]);
+    rules.extend([over_connectives(5, 2, 9), over_connectives(6, 3, 8), nots_first(5), nots_first(6)]);
     rules
+}
+
+/// One chain of 128 entries: nots, then eight quantifiers, then a comparison.
+fn nots_first(quantifier: u32) -> Vec<u32> {
+    let (entries, nested) = (MOST_ENTRIES as u32, MOST_NESTED as u32);
+    let mut rule = vec![];
+    for place in 0..entries - 1 {
+        let words = if place + 1 + nested < entries { [1, place + 1, 0, 0] } else { [quantifier, place + 1, 0, LAST] };
+        rule.extend(words);
+    }
+    rule.extend([7, nested - 1, 1, LAST_VALUE]);
+    rule
 }
 
 /// Eight quantifiers around one chain of connectives to the left, of comparisons with the innermost variable
@@ -153,7 +165,7 @@ mod tests {
         for rule in rules() {
             assert_eq!(check_rule(&rule), Answer::Done(rule.len() / 4));
         }
-        for table in tables().into_iter().chain([table_of_two(), longest_pool()]) {
+        for table in tables().into_iter().chain([table_of_two(), table_of_ends(), longest_pool()]) {
             assert_eq!(check_table(&table), Answer::Done(MOST_ROWS));
         }
     }

@@ -71,7 +71,7 @@ fn files() {
 #[test]
 fn verdict_and_marks() {
     for rule in largest::rules() {
-        for table in largest::tables().into_iter().chain([largest::table_of_two()]) {
+        for table in largest::tables().into_iter().chain([largest::table_of_two(), largest::table_of_ends()]) {
             let verdict = on_a_small_stack(|| ffi::verdict(&rule, &table));
             assert_eq!(verdict, checker::verdict(&rule, &table), "{rule:?}");
             let mut expected = vec![7; table.len() / checker::ROW_WORDS];
@@ -87,7 +87,7 @@ fn verdict_and_marks() {
 #[test]
 fn parts() {
     for rule in largest::rules() {
-        for table in largest::tables() {
+        for table in largest::tables().into_iter().chain([largest::table_of_ends()]) {
             for mode in 1..=3 {
                 let mut expected = vec![7; table.len()];
                 let answer = checker::part(&rule, &table, mode, &mut expected);
@@ -103,7 +103,7 @@ fn parts() {
 #[test]
 fn entry() {
     for rule in largest::rules() {
-        for table in largest::tables().into_iter().chain([largest::longest_pool()]) {
+        for table in largest::tables().into_iter().chain([largest::table_of_ends(), largest::longest_pool()]) {
             let (rule, pool) = (checker::RULE.text_of(&rule), checker::POOL.text_of(&table));
             let verdict = on_a_small_stack(|| ffi::check_files(&rule, &pool));
             assert_eq!(verdict, checker::check_files(&rule, &pool));
