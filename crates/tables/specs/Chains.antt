@@ -35,7 +35,7 @@ linkFault k t i = cond (eqb k 11) (noParent t i) (hasTwin t i)
 
 -- below 1,024
 unfoldable pub hashOf : ℕ → ℕ → ℕ → ℕ → ℕ
-hashOf d a n v = (d * 1480254737 + a * 835554179 + n * 1029222115 + v * 700227275) % 4294967296 / 4194304
+hashOf d a n v = (d * 947282241 + a * 1870821409 + n * 669926575 + v * 700227275) % 4294967296 / 4194304
 
 -- one that equal siblings share: for roots the device does not count
 unfoldable pub twinHash : Row → ℕ

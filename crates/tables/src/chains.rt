@@ -23,14 +23,14 @@ fn size(x: u32) -> usize
     x as usize
 }
 
-// A number below 1,024: the upper bits of 32. The factors are odd, so that words count to their last bit, and were chosen by trying:
-// they spread words in steps of 1 to 256, of powers of two and ten and their multiples, and pairs of such. Their sum is below 2^32.
+// A number below 1,024: the upper 10 of 32 bits. The factors are odd, so that every bit of a word counts, and their sum is below 2^32.
+// They were searched for: words that rise in steps of 1 to 256, or of small multiples of powers of two or ten, spread, alone and in pairs.
 fn hash_of(device: u32, place: u32, name: u32, value: u32) -> usize
     ensures { λ h. ⌜ h ≡ hashOf device place name value ⌝ }
 {
-    (size(device) * 1480254737
-        + size(place) * 835554179
-        + size(name) * 1029222115
+    (size(device) * 947282241
+        + size(place) * 1870821409
+        + size(name) * 669926575
         + size(value) * 700227275)
         % 4294967296
         / 4194304

@@ -1,4 +1,4 @@
-// Checks 11 and 12 without chains: the rows one after the other. The loops take no longer on any table than comparing all pairs.
+// Checks 11 and 12 where a chain is too long: the rows one after the other, as fast as comparing all pairs of rows.
 use super::Row;
 use super::rows::ROW_WORDS;
 use super::rows::UP;
@@ -34,7 +34,7 @@ fn has_like(t: &[u32], n: usize, r: Row) -> bool
     found
 }
 
-// Of rows with one name and value few have the same parent.
+// The parent is tested first: some row is known to have the name and value of r.
 fn is_twin_at(t: &[u32], j: usize, r: Row) -> bool
     requires { ⌜ 5 * j + 5 ≤ length (now t) ⌝ }
     ensures { λ o. ⌜ o ≡ isTwin r (rowAt (now (t .entry)) j) ⌝ }
@@ -55,6 +55,7 @@ fn matches_at(t: &[u32], j: usize, number: u32, r: Row) -> bool
     is_twin_at(t, j, r)
 }
 
+// Stops at the first row that matches.
 fn scan(t: &[u32], n: usize, number: u32, r: Row) -> bool
     requires { ⌜ 5 * n ≤ length (now t) ⌝ }
     ensures { λ o. ⌜ o ≡ some (λ j. matchOf number r (rowAt (now (t .entry)) j)) n ⌝ }
@@ -75,7 +76,7 @@ fn has_match_in(t: &[u32], n: usize, number: u32, r: Row) -> bool
     ensures { λ o. ⌜ o ≡ some (λ j. matchOf number r (rowAt (now (t .entry)) j)) n ⌝ }
 {
     if number == 11 {
-        return scan(t, n, 11, r);
+        return scan(t, n, number, r);
     }
     if has_like(t, n, r) {
         return scan(t, n, number, r);

@@ -1,7 +1,5 @@
 -- `tables::chains::is_fault` meets its contract. Assumes nothing.
-use mathlib.Core.Path.{sym, ap, _∙_}
-use mathlib.Core.Bool.{not}
-use borrow.Author.Needs.{needs}
+use mathlib.Core.Path.{ap, _∙_}
 use Rattle.tables.specs.Chains.{faultOf}
 use Rattle.tables.proofs.Linked.{root-fault, parent-fault, twin-fault}
 use Rattle.tables.proofs.chains.is_fault.Statement.{statement}

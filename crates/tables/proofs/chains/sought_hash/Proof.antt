@@ -1,5 +1,4 @@
 -- `tables::chains::sought_hash` meets its contract. Assumes nothing.
-use mathlib.Core.Path.{sym, _∙_}
 use borrow.Author.Needs.{needs}
 use borrow.Author.Tests.{eq-eqb, ne-eqb}
 use Rattle.tables.specs.Chains.{soughtHash}

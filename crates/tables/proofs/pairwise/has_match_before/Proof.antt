@@ -2,7 +2,6 @@
 use mathlib.Core.Path.{refl, sym, _∙_}
 use native.Mathlib.Omega.{arith}
 use denote.Ref.{now}
-use borrow.Author.Needs.{needs}
 use Rattle.tables.proofs.Scanned.{in-first, found-first, in-second}
 use Rattle.tables.proofs.pairwise.has_match_before.Statement.{statement}
 use Rattle.tables.proofs.pairwise.has_match_before.Tie as tie

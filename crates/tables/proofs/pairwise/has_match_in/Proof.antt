@@ -1,11 +1,7 @@
 -- `tables::pairwise::has_match_in` meets its contract. Assumes nothing.
-use Prim.Native.Nat.{ℕ}
-use mathlib.Core.Path.{sym, ap, _∙_}
+use mathlib.Core.Path.{sym, _∙_}
 use denote.Ref.{now}
 use borrow.Author.Needs.{needs}
-use Rattle.base.specs.Search.{some}
-use Rattle.tables.specs.Words.{rowAt}
-use Rattle.tables.specs.Chains.{matchOf}
 use Rattle.tables.proofs.Scanned.{none-like}
 use Rattle.tables.proofs.pairwise.has_match_in.Statement.{statement}
 use Rattle.tables.proofs.pairwise.has_match_in.Tie as tie
@@ -13,7 +9,7 @@ use Rattle.tables.proofs.pairwise.has_match_in.Tie as tie
 pub has-match-in-spec : {M : Type 1} → statement M
 has-match-in-spec = tie.close (tie.spec
     (λ c κs. search needs)
-    (λ c. let s = c .before .before .before in c .scan .ensures ∙ ap (λ (k : ℕ). some (λ j. matchOf k (s .args .r) (rowAt (now (s .args .t)) j)) (s .args .n)) (sym (c .before .if1 .taken)))
+    (λ c. search needs)
     (λ c κs. search needs)
     (λ c κs. search needs)
     (λ c. search needs)

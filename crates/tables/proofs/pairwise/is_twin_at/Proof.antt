@@ -2,7 +2,7 @@
 use borrow.Author.Needs.{needs}
 use denote.Ref.{now}
 use Rattle.tables.specs.Words.{rowAt}
-use mathlib.Core.Path.{sym, ap, _∙_}
+use mathlib.Core.Path.{ap, _∙_}
 use Rattle.tables.specs.Tables.{isTwin}
 use Rattle.tables.proofs.Scanned.{not-twin}
 use Rattle.tables.proofs.pairwise.is_twin_at.Statement.{statement}

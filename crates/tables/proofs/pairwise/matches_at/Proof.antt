@@ -1,6 +1,6 @@
 -- `tables::pairwise::matches_at` meets its contract. Assumes nothing.
 use borrow.Author.Needs.{needs}
-use mathlib.Core.Path.{sym, ap, _∙_}
+use mathlib.Core.Path.{ap, _∙_}
 use borrow.Author.Tests.{eq-eqb, ne-eqb}
 use Rattle.tables.specs.Tables.{isParent}
 use Rattle.tables.specs.Chains.{matchOf}

@@ -2,7 +2,6 @@
 use Prim.Native.Nat.{_-_}
 use mathlib.Core.Path.{sym, _∙_}
 use native.Mathlib.Omega.{arith}
-use borrow.Author.Needs.{needs}
 use Rattle.base.proofs.Search.{Passed, begin, miss, some-at}
 use Rattle.tables.specs.Words.{rowAt}
 use Rattle.tables.specs.Chains.{matchOf}
