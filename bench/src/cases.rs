@@ -4,7 +4,7 @@ use gabzeril_tests::checker::{POOL, RULE};
 use gabzeril_tests::generate::{files_cost, reading_cost, verdict_cost};
 
 use crate::calls::Call;
-use crate::inputs::{deep, devices, gathered, one_device, roots, A, B, C};
+use crate::inputs::{deep, devices, gathered, one_device, roots, roots_in_one_chain, A, B, C};
 
 pub struct Case {
     pub call: Call,
@@ -74,6 +74,8 @@ pub fn all() -> Vec<Case> {
         cases.push(case(Call::CheckTable { table: roots(rows, 1) }, "roots of one device", rows));
         let table = roots(rows, 1_024);
         cases.push(case(Call::CheckTable { table }, "roots, values multiples of 1,024", rows));
+        let table = roots_in_one_chain(rows);
+        cases.push(case(Call::CheckTable { table }, "roots, all in one chain", rows));
     }
     for rows in [64, 256, 1_020, 1_024] {
         on_devices(&mut cases, rows);

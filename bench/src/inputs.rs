@@ -1,5 +1,7 @@
 //! Rules and pools of the benchmark.
 
+use gabzeril_tests::checker::MOST_VALUE;
+
 /// Rule A of the contract: each device is client or server.
 pub const A: [u32; 24] = [5, 1, 0, 1, 3, 2, 4, 0, 6, 3, 1, 2, 7, 1, 1, 1, 6, 5, 1, 2, 7, 1, 1, 2];
 
@@ -72,7 +74,22 @@ pub fn gathered(rows: u32) -> Vec<u32> {
 
 /// Roots of one device with distinct values: 0, `step`, and so on.
 pub fn roots(rows: u32, step: u32) -> Vec<u32> {
-    (0..rows).flat_map(|row| [1, row + 1, 0, 1, row * step]).collect()
+    roots_of((0..rows).map(|row| row * step))
+}
+
+/// Roots of one device whose hashes in check 12 are all equal: the library links them in one chain.
+pub fn roots_in_one_chain(rows: u32) -> Vec<u32> {
+    let all = (0..=MOST_VALUE).filter(|&value| root_hash(value) == root_hash(0));
+    roots_of(all.take(rows as usize))
+}
+
+fn roots_of(values: impl Iterator<Item = u32>) -> Vec<u32> {
+    (1..).zip(values).flat_map(|(at, value)| [1, at, 0, 1, value]).collect()
+}
+
+/// `hash_of` in crates/tables/src/chains.rt, for a root of name 1.
+fn root_hash(value: u32) -> u64 {
+    (669_926_575 + u64::from(value) * 700_227_275) % (1 << 32) / (1 << 22)
 }
 
 /// Eight quantifiers over roots around one another; each decides at the last row of `roots(rows, 1)`.
@@ -98,9 +115,15 @@ mod tests {
     #[test]
     fn all_are_accepted() {
         for rows in [64, 256, 512, 1_020, 1_021, 1_024] {
-            for table in
-                [devices(rows, 1), one_device(rows), gathered(rows), roots(rows, 1), roots(rows, 1_024)]
-            {
+            let tables = [
+                devices(rows, 1),
+                one_device(rows),
+                gathered(rows),
+                roots(rows, 1),
+                roots(rows, 1_024),
+                roots_in_one_chain(rows),
+            ];
+            for table in tables {
                 assert_eq!(check_table(&table), Answer::Done(rows as usize));
             }
             assert_eq!(check_rule(&deep(rows)), Answer::Done(23));

@@ -7,6 +7,7 @@ pub mod Linked
 pub mod Joins
 pub mod Parting
 pub mod RowLists
+pub mod Scanned
 pub mod Proper
 pub mod InPlace
 pub mod AcceptedRule

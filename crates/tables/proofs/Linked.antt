@@ -1,22 +1,22 @@
 -- Rows linked by hash: what the two loops keep, for any hash, test and fault. Assumes nothing.
-use Prim.Native.Nat.{ℕ, zero, suc, _+_, _*_, _-_, _%_, _<_, _≤_}
+use Prim.Native.Nat.{ℕ, zero, suc, _+_, _-_, _<_, _≤_}
 use mathlib.Core.Path.{_≡_, refl, sym, ap, ap₂, _∙_}
 use mathlib.Core.Bool.{Bool, true, false, cond, not, _&&_, _||_, true≢false}
 use mathlib.Core.List.{List}
 use native.Mathlib.Numerals.{add-one}
 use native.Mathlib.Decide.{decLt}
 use native.Mathlib.Omega.{arith}
-use lib.ListN.{length, getD, set, length-set, replicate}
+use lib.ListN.{getD, set, length-set, replicate}
 use lib.Seq.{getD-set-same, getD-set-other}
-use lib.Dec.{eqb, ltb}
-use borrow.Author.Tests.{eqb-true, eq-eqb, ne-eqb}
+use lib.Dec.{eqb}
+use borrow.Author.Tests.{eqb-true, eq-eqb, ne-eqb, ltb-true}
 use Rattle.base.specs.Search.{first, some}
 use Rattle.base.proofs.Bools.{either, and-left, and-right}
-use Rattle.base.proofs.Search.{Passed, begin, hit, miss, some-at, some-none}
+use Rattle.base.proofs.Search.{Passed, begin, hit, miss, at-first, none-at, some-at, some-none}
 use Rattle.tables.specs.Words.{rowAt}
 use Rattle.tables.specs.Tables.{root, isTwin, isParent}
 use Rattle.tables.specs.declared.Row.{Row}
-use Rattle.tables.specs.Chains.{lastOf, matchOf, faultOf, linkFault, placeHash, twinHash, ownHash, soughtHash, hashAt, Linked, Heads}
+use Rattle.tables.specs.Chains.{lastOf, matchOf, faultOf, linkFault, hashOf, twinHash, ownHash, soughtHash, hashAt, Linked, Heads}
 
 -- ---- the last number at which a test holds
 module _ (p : ℕ → Bool) where
@@ -92,6 +92,15 @@ module _ (hash : ℕ → ℕ) (p : ℕ → Bool) (h i : ℕ) (agrees : (j : ℕ)
   pub seek-hit : (k : ℕ) → Seeks hash p h i k → 0 < k → p (k - 1) ≡ true → true ≡ some p i
   seek-hit k s z e = sym (some-at p i (k - 1) (omega (arith, s .within)) e)
 
+  -- where the chain is left, the rest of the rows tells
+  pub seek-rest : (k : ℕ) → Seeks hash p h i k → some p k ≡ some p i
+  seek-rest k s = either (some p k)
+      (λ e. let l : first p k < k = ltb-true _ _ e in e ∙ sym (some-at p i (first p k) (omega (arith, s .within)) (at-first p k l)))
+      (λ e. e ∙ sym (some-none p i (λ j l. elim (decLt j k) [
+        | yes y ↦ none-at p k j e y
+        | no z ↦ s .passed j (omega arith) l
+      ])))
+
   pub seek-end : (k : ℕ) → Seeks hash p h i k → k ≤ 0 → false ≡ some p i
   seek-end k s z = sym (some-none p i (λ j l. s .passed j (omega arith) l))
 
@@ -152,40 +161,36 @@ module _ (hash : ℕ → ℕ) (fault : ℕ → Bool) (n : ℕ) where
         }
 
 -- ---- the hashes of both checks
-place-below : (d a : ℕ) → placeHash d a < 1024
-unfolding placeHash
-place-below d a = omega arith
+hash-below : (d a n v : ℕ) → hashOf d a n v < 1024
+unfolding hashOf
+hash-below d a n v = omega arith
 
 twin-below : (r : Row) → twinHash r < 1024
 unfolding twinHash
-twin-below r = go (root r)
-  where
-    go : (z : Bool) → cond z ((r .name * 31 + r .value) % 1024) ((r .device * 29791 + r .up * 961 + r .name * 31 + r .value) % 1024) < 1024
-    go true = omega arith
-    go false = omega arith
+twin-below r = hash-below _ _ _ _
 
 pub own-below : (k : ℕ) (r : Row) → ownHash k r < 1024
 unfolding ownHash
 own-below k r = go (eqb k 11)
   where
-    go : (z : Bool) → cond z (placeHash (r .device) (r .at)) (twinHash r) < 1024
-    go true = place-below (r .device) (r .at)
+    go : (z : Bool) → cond z (hashOf (r .device) (r .at) 0 0) (twinHash r) < 1024
+    go true = hash-below _ _ _ _
     go false = twin-below r
 
 pub sought-below : (k : ℕ) (r : Row) → soughtHash k r < 1024
 unfolding soughtHash
 sought-below k r = go (eqb k 11)
   where
-    go : (z : Bool) → cond z (placeHash (r .device) (r .up)) (twinHash r) < 1024
-    go true = place-below (r .device) (r .up)
+    go : (z : Bool) → cond z (hashOf (r .device) (r .up) 0 0) (twinHash r) < 1024
+    go true = hash-below _ _ _ _
     go false = twin-below r
 
 -- a row that matches has the sought hash
-parent-hash : (r b : Row) → isParent r b ≡ true → placeHash (b .device) (b .at) ≡ placeHash (r .device) (r .up)
+parent-hash : (r b : Row) → isParent r b ≡ true → hashOf (b .device) (b .at) 0 0 ≡ hashOf (r .device) (r .up) 0 0
 parent-hash r b e =
     let d : Bool = eqb (b .device) (r .device) in
     let a : Bool = eqb (b .at) (r .up) in
-    ap₂ placeHash (eqb-true _ _ (and-left d a e)) (eqb-true _ _ (and-right d a e))
+    ap₂ (λ (x y : ℕ). hashOf x y 0 0) (eqb-true _ _ (and-left d a e)) (eqb-true _ _ (and-right d a e))
 
 same-hash : (r b : Row) → isTwin r b ≡ true → twinHash b ≡ twinHash r
 unfolding twinHash
@@ -199,22 +204,19 @@ same-hash r b e =
     same (b .device) (r .device) (b .up) (r .up) (b .name) (r .name) (b .value) (r .value)
     (eqb-true _ _ (and-left a o q)) (eqb-true _ _ (and-right (a && o) n s)) (eqb-true _ _ (and-right ((a && o) && n) v e)) (and-right a o q)
   where
-    mix : ℕ → ℕ → ℕ → ℕ → ℕ
-    mix d u n v = cond (eqb u 0) ((n * 31 + v) % 1024) ((d * 29791 + u * 961 + n * 31 + v) % 1024)
-
-    same : (d d′ u u′ n n′ v v′ : ℕ) → u ≡ u′ → n ≡ n′ → v ≡ v′ → (eqb u′ 0 || eqb d d′) ≡ true → mix d u n v ≡ mix d′ u′ n′ v′
-    same d d′ u u′ n n′ v v′ f g k o = rw (f, g, k) (go (eqb u′ 0) o)
+    same : (d d′ u u′ n n′ v v′ : ℕ) → u ≡ u′ → n ≡ n′ → v ≡ v′ → (eqb u′ 0 || eqb d d′) ≡ true
+        → hashOf (cond (eqb u 0) 0 d) u n v ≡ hashOf (cond (eqb u′ 0) 0 d′) u′ n′ v′
+    same d d′ u u′ n n′ v v′ f g k o = rw (f, g, k) (ap (λ (x : ℕ). hashOf x u′ n′ v′) (go (eqb u′ 0) o))
       where
-        go : (z : Bool) → (z || eqb d d′) ≡ true
-            → cond z ((n′ * 31 + v′) % 1024) ((d * 29791 + u′ * 961 + n′ * 31 + v′) % 1024) ≡ cond z ((n′ * 31 + v′) % 1024) ((d′ * 29791 + u′ * 961 + n′ * 31 + v′) % 1024)
+        go : (z : Bool) → (z || eqb d d′) ≡ true → cond z 0 d ≡ cond z 0 d′
         go true o = refl
-        go false o = rw (eqb-true d d′ o)
+        go false o = eqb-true d d′ o
 
 pub match-hash : (k : ℕ) (r b : Row) → matchOf k r b ≡ true → ownHash k b ≡ soughtHash k r
 unfolding matchOf ownHash soughtHash
 match-hash k r b e = go (eqb k 11) e
   where
-    go : (z : Bool) → cond z (isParent r b) (isTwin r b) ≡ true → cond z (placeHash (b .device) (b .at)) (twinHash b) ≡ cond z (placeHash (r .device) (r .up)) (twinHash r)
+    go : (z : Bool) → cond z (isParent r b) (isTwin r b) ≡ true → cond z (hashOf (b .device) (b .at) 0 0) (twinHash b) ≡ cond z (hashOf (r .device) (r .up) 0 0) (twinHash r)
     go true h = parent-hash r b h
     go false h = same-hash r b h
 
@@ -228,21 +230,47 @@ module _ (k : ℕ) (t : List ℕ) (i : ℕ) (r : Row) (r-is : r ≡ rowAt t i) w
   pub own-is : (h : ℕ) → h ≡ ownHash k r → h ≡ hashAt k t i
   own-is h h-is = h-is ∙ ap (ownHash k) r-is
 
-  pub link-fault : (found : Bool) → found ≡ some (λ j. matchOf k r (rowAt t j)) i → (b : Bool) → b ≡ faultOf k r found → b ≡ linkFault k t i
+  pub link-fault : (b : Bool) → b ≡ faultOf k r (some (λ j. matchOf k r (rowAt t j)) i) → b ≡ linkFault k t i
   unfolding matchOf faultOf linkFault
-  link-fault found f-is b b-is =
-      b-is ∙ ap (faultOf k r) f-is ∙ ap (λ (x : Row). faultOf k x (some (λ j. matchOf k x (rowAt t j)) i)) r-is ∙ go (eqb k 11)
+  link-fault b b-is =
+      b-is ∙ ap (λ (x : Row). faultOf k x (some (λ j. matchOf k x (rowAt t j)) i)) r-is ∙ go (eqb k 11)
     where
       go : (z : Bool) → cond z (not (root (rowAt t i)) && not (some (λ j. cond z (isParent (rowAt t i) (rowAt t j)) (isTwin (rowAt t i) (rowAt t j))) i)) (some (λ j. cond z (isParent (rowAt t i) (rowAt t j)) (isTwin (rowAt t i) (rowAt t j))) i)
           ≡ cond z (not (root (rowAt t i)) && not (some (λ j. isParent (rowAt t i) (rowAt t j)) i)) (some (λ j. isTwin (rowAt t i) (rowAt t j)) i)
       go true = refl
       go false = refl
 
-module _ (r : Row) (n v : ℕ) (n-is : n ≡ r .name) (v-is : v ≡ r .value) where
-  pub hash-root : r .up ≡ 0 → (n * 31 + v) % 1024 ≡ twinHash r
-  unfolding twinHash
-  hash-root z = simp (n-is, v-is, eq-eqb (r .up) 0 z)
+-- ---- the hashes as they are computed
+pub own-sought : (k : ℕ) (r : Row) → (k ≡ 11 → ⊥) → ownHash k r ≡ soughtHash k r
+unfolding ownHash soughtHash
+own-sought k r n = simp (ne-eqb k 11 n)
 
-  pub hash-under : (d u : ℕ) → (r .up ≡ 0 → ⊥) → d ≡ r .device → u ≡ r .up → (d * 29791 + u * 961 + n * 31 + v) % 1024 ≡ twinHash r
+module _ (r : Row) (d : ℕ) where
+  pub root-device : r .up ≡ 0 → d ≡ 0 → d ≡ cond (root r) 0 (r .device)
+  root-device z e = simp (eq-eqb (r .up) 0 z) e
+
+  pub child-device : (r .up ≡ 0 → ⊥) → d ≡ r .device → d ≡ cond (root r) 0 (r .device)
+  child-device z e = simp (ne-eqb (r .up) 0 z) e
+
+  pub twin-is : d ≡ cond (root r) 0 (r .device) → hashOf d (r .up) (r .name) (r .value) ≡ twinHash r
   unfolding twinHash
-  hash-under d u z d-is u-is = simp (n-is, v-is, d-is, u-is, ne-eqb (r .up) 0 z)
+  twin-is e = ap (λ (x : ℕ). hashOf x (r .up) (r .name) (r .value)) e
+
+-- ---- a row's fault, by what the search found
+module _ (k : ℕ) (r : Row) (found : Bool) where
+  pub root-fault : (eqb k 11 && root r) ≡ true → false ≡ faultOf k r found
+  unfolding faultOf
+  root-fault e = simp (and-left (eqb k 11) (root r) e, and-right (eqb k 11) (root r) e)
+
+  pub parent-fault : (eqb k 11 && root r) ≡ false → k ≡ 11 → not found ≡ faultOf k r found
+  unfolding faultOf
+  parent-fault e q = go (eqb k 11) (root r) (eq-eqb k 11 q) e
+    where
+      go : (a b : Bool) → a ≡ true → (a && b) ≡ false → not found ≡ cond a (not b && not found) found
+      go true false e f = refl
+      go true true e f = absurd (true≢false f)
+      go false b e f = absurd (true≢false (sym e))
+
+  pub twin-fault : (k ≡ 11 → ⊥) → found ≡ faultOf k r found
+  unfolding faultOf
+  twin-fault n = simp (ne-eqb k 11 n)

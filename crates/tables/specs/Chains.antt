@@ -1,5 +1,5 @@
 -- Private contracts of the checks 11 and 12: rows with one hash are linked, each to the last one before it. Assumes nothing.
-use Prim.Native.Nat.{ℕ, zero, suc, _+_, _*_, _%_, _<_, _≤_}
+use Prim.Native.Nat.{ℕ, zero, suc, _+_, _*_, _/_, _%_, _<_, _≤_}
 use mathlib.Core.Path.{_≡_}
 use mathlib.Core.Bool.{Bool, cond, not, _&&_}
 use mathlib.Core.List.{List}
@@ -26,23 +26,28 @@ matchOf k r b = cond (eqb k 11) (isParent r b) (isTwin r b)
 unfoldable pub faultOf : ℕ → Row → Bool → Bool
 faultOf k r found = cond (eqb k 11) (not (root r) && not found) found
 
+-- a row with the name and value of r
+unfoldable pub isLike : Row → Row → Bool
+isLike r b = eqb (b .name) (r .name) && eqb (b .value) (r .value)
+
 unfoldable pub linkFault : ℕ → List ℕ → ℕ → Bool
 linkFault k t i = cond (eqb k 11) (noParent t i) (hasTwin t i)
 
-unfoldable pub placeHash : ℕ → ℕ → ℕ
-placeHash d a = (d * 31 + a) % 1024
+-- below 1,024
+unfoldable pub hashOf : ℕ → ℕ → ℕ → ℕ → ℕ
+hashOf d a n v = (d * 947282241 + a * 1870821409 + n * 669926575 + v * 700227275) % 4294967296 / 4194304
 
+-- one that equal siblings share: for roots the device does not count
 unfoldable pub twinHash : Row → ℕ
-twinHash r =
-    cond (root r) ((r .name * 31 + r .value) % 1024) ((r .device * 29791 + r .up * 961 + r .name * 31 + r .value) % 1024)
+twinHash r = hashOf (cond (root r) 0 (r .device)) (r .up) (r .name) (r .value)
 
 -- the hash under which a row is linked
 unfoldable pub ownHash : ℕ → Row → ℕ
-ownHash k b = cond (eqb k 11) (placeHash (b .device) (b .at)) (twinHash b)
+ownHash k b = cond (eqb k 11) (hashOf (b .device) (b .at) 0 0) (twinHash b)
 
 -- the hash of the rows that match r
 unfoldable pub soughtHash : ℕ → Row → ℕ
-soughtHash k r = cond (eqb k 11) (placeHash (r .device) (r .up)) (twinHash r)
+soughtHash k r = cond (eqb k 11) (hashOf (r .device) (r .up) 0 0) (twinHash r)
 
 abbrev pub hashAt : ℕ → List ℕ → ℕ → ℕ
 hashAt k t i = ownHash k (rowAt t i)

@@ -5,6 +5,7 @@ mod devices;
 mod entries;
 mod files;
 mod joining;
+mod pairwise;
 mod reading;
 mod rows;
 mod rules;
