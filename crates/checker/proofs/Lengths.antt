@@ -10,11 +10,11 @@ use lib.ListN.{length, drop, length-append}
 use lib.Dec.{ltb, leb}
 use borrow.Author.Tests.{ltb-false, le-leb}
 use Rattle.base.specs.Search.{sumBelow}
-use Rattle.tables.specs.Answers.{isDone, andThen, unless, value}
+use Rattle.tables.specs.Answers.{isDone, andThen, unless, value, output}
 use Rattle.tables.specs.Words.{rowCount, rows, rowAt}
 use Rattle.tables.specs.Rules.{checkRule, acceptedRule}
 use Rattle.tables.specs.Tables.{checkTable, acceptedTable}
-use Rattle.tables.specs.Files.{countNames, refusalNames, digitByte, digitsUpTo, numberText, byteAfter, nextColumn, textFrom, writeText, checkFile, output}
+use Rattle.tables.specs.Files.{countNames, refusalNames, digitByte, digitsUpTo, numberText, byteAfter, nextColumn, textFrom, writeText, checkFile}
 use Rattle.tables.specs.declared.Answer.{Answer}
 use Rattle.tables.specs.declared.Answer.the-variants.{Done, Refused}
 use Rattle.tables.proofs.Answers.{andThen-first, andThen-next, unless-next}

@@ -6,10 +6,10 @@ use lib.ListN.{length}
 use lib.Dec.{eqb, leb}
 use Rattle.base.specs.Lists.{select}
 use Rattle.base.specs.Search.{sumBelow}
-use Rattle.tables.specs.Answers.{andThen, unless, value}
+use Rattle.tables.specs.Answers.{andThen, unless, value, fitting, output}
 use Rattle.tables.specs.Words.{rows, rowAt, rowCount}
 use Rattle.tables.specs.Rules.{one}
-use Rattle.tables.specs.Files.{countNames, countWords, refusalNames, refusalWords, writeText, fitting, output}
+use Rattle.tables.specs.Files.{countNames, countWords, refusalNames, refusalWords, writeText}
 use Rattle.tables.specs.declared.Row.{Row}
 use Rattle.tables.specs.declared.Answer.{Answer}
 use Rattle.tables.specs.declared.Answer.the-variants.{Done, Refused}

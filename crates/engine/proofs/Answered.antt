@@ -5,7 +5,7 @@ use mathlib.Core.Bool.{Bool, true}
 use mathlib.Core.List.{List, [], _∷_, _++_}
 use native.Mathlib.Numerals.{add-one}
 use native.Mathlib.Omega.{arith}
-use lib.ListN.{length, drop, replicate, set}
+use lib.ListN.{length, drop, replicate, set, length-map}
 use lib.Dec.{leb}
 use borrow.Author.Tests.{le-leb, lt-leb}
 use Rattle.tables.specs.Answers.{isDone, andThen, unless}
@@ -16,9 +16,10 @@ use Rattle.tables.specs.declared.Answer.{Answer}
 use Rattle.tables.specs.declared.Answer.the-variants.{Done, Refused}
 use Rattle.tables.proofs.Answers.{andThen-first, andThen-next}
 use Rattle.tables.proofs.AcceptedRule.{some-entry}
+use Rattle.tables.proofs.RowLists.{length-rows}
 use Rattle.logic.specs.Formulas.{formula}
 use Rattle.logic.specs.Verdict as meaning
-use Rattle.logic.specs.Marks.{marked, reason, marksAnswer, marksOut}
+use Rattle.logic.specs.Marks.{marked, reason, markBytes, marksAnswer, marksOut}
 use Rattle.engine.specs.Places.{fresh}
 use Rattle.engine.specs.Ready.{Ready, verdictAt}
 use Rattle.engine.specs.Marked.{markIn, reasonAt}
@@ -105,6 +106,7 @@ module _ (rule pool : List ℕ) (a : Answer) (a-is : a ≡ andThen (checkRule ru
           ap Done answered ∙ sym done,
           m-is ∙ ap₂ (markIn pool) start-reason c-is
               ∙ mark-zeros pool 0 (rowCount pool) (reason (formula rule) (rows pool) 0 meaning.noneBound) (drop (rowCount pool) out)
+              ∙ ap (λ (n : ℕ). markBytes (formula rule) (rows pool) ++ drop n out) (sym (length-map (rows pool) (λ r. one (marked (formula rule) (rows pool) r)) ∙ length-rows pool))
               ∙ sym (rw done),
         )
           where

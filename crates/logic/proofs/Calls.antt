@@ -11,7 +11,7 @@ use lib.Dec.{eqb, leb}
 use borrow.Author.Tests.{le-leb, eq-eqb}
 use Rattle.base.specs.Lists.{_∈_}
 use Rattle.base.proofs.Bools.{and-both}
-use Rattle.tables.specs.Answers.{isDone, value, unless}
+use Rattle.tables.specs.Answers.{isDone, value, unless, output}
 use Rattle.tables.specs.Words.{rowWords, rowAt, rowCount, rowsFrom, rows}
 use Rattle.tables.specs.Rules.{one, checkRule, acceptedRule}
 use Rattle.tables.specs.Tables.{checkTable, acceptedTable}
@@ -54,12 +54,14 @@ module _ (rule table : List ℕ) (rule-ok : acceptedRule rule ≡ true) (table-o
       ∙ andThen-passed (checkTable table) _ table-ok
       ∙ unless-passed (leb (rowCount table) room) 17 _ (le-leb (rowCount table) room h)
 
-  pub marks-out : (out : List ℕ) → rowCount table ≤ length out → marksOut rule table out ≡ markBytes (formula rule) (rows table) ++ drop (rowCount table) out
-  unfolding marksOut
-  marks-out out h = ap (λ (a : Answer). cond (isDone a) (markBytes (formula rule) (rows table) ++ drop (rowCount table) out) out) (marks-is (length out) h)
-
   pub byte-count : length (markBytes (formula rule) (rows table)) ≡ rowCount table
   byte-count = length-map (rows table) (λ r. one (marked (formula rule) (rows table) r)) ∙ length-rows table
+
+  pub marks-out : (out : List ℕ) → rowCount table ≤ length out → marksOut rule table out ≡ markBytes (formula rule) (rows table) ++ drop (rowCount table) out
+  unfolding marksOut
+  marks-out out h =
+      ap (λ (a : Answer). output a (markBytes (formula rule) (rows table)) out) (marks-is (length out) h)
+      ∙ ap (λ (n : ℕ). markBytes (formula rule) (rows table) ++ drop n out) byte-count
 
   pub byte-is : (out : List ℕ) → rowCount table ≤ length out → (i : ℕ) → i < rowCount table
       → getD (marksOut rule table out) i 0 ≡ one (marked (formula rule) (rows table) (rowAt table i))

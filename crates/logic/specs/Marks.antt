@@ -5,7 +5,7 @@ use mathlib.Core.List.{List, [], _∷_, _++_, map}
 use lib.ListN.{length, drop}
 use lib.Dec.{eqb, leb}
 use Rattle.base.specs.Lists.{select, any, concatMap}
-use Rattle.tables.specs.Answers.{andThen, unless, isDone}
+use Rattle.tables.specs.Answers.{andThen, unless, output}
 use Rattle.tables.specs.Words.{rows, rowCount}
 use Rattle.tables.specs.Rules.{one, checkRule}
 use Rattle.tables.specs.Tables.{checkTable}
@@ -82,6 +82,4 @@ marksAnswer rule pool room =
     (Done (one (verdict (formula rule) (rows pool))))))
 
 unfoldable pub marksOut : List ℕ → List ℕ → List ℕ → List ℕ
-marksOut rule pool out =
-    cond (isDone (marksAnswer rule pool (length out)))
-    (markBytes (formula rule) (rows pool) ++ drop (rowCount pool) out) out
+marksOut rule pool out = output (marksAnswer rule pool (length out)) (markBytes (formula rule) (rows pool)) out

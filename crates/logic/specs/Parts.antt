@@ -6,7 +6,7 @@ use mathlib.Core.List.{List, [], _∷_, _++_, reverse, map}
 use lib.ListN.{length, drop}
 use lib.Dec.{eqb, ltb, leb}
 use Rattle.base.specs.Lists.{select, when, concatMap, all, any, _∈_}
-use Rattle.tables.specs.Answers.{andThen, unless, unlessAny, isDone}
+use Rattle.tables.specs.Answers.{andThen, unless, unlessAny, output}
 use Rattle.tables.specs.Words.{rows, rowAt, rowCount, rowWords}
 use Rattle.tables.specs.Rules.{checkRule}
 use Rattle.tables.specs.Tables.{root, isParent, checkTable}
@@ -114,6 +114,4 @@ partAnswer rule table mode room =
     (Done (length sent)))))))
 
 unfoldable pub partOut : List ℕ → List ℕ → ℕ → List ℕ → List ℕ
-partOut rule table mode out =
-    let sent = wordsOf (partOf (formula rule) mode (rows table)) in
-    cond (isDone (partAnswer rule table mode (length out))) (sent ++ drop (length sent) out) out
+partOut rule table mode out = output (partAnswer rule table mode (length out)) (wordsOf (partOf (formula rule) mode (rows table))) out

@@ -11,8 +11,8 @@ use borrow.Author.Tests.{le-leb, leb-true, leb-false}
 use Rattle.base.proofs.Bools.{either}
 use Rattle.tables.specs.declared.Answer.{Answer}
 use Rattle.tables.specs.declared.Answer.the-variants.{Done, Refused}
-use Rattle.tables.specs.Answers.{number, isDone, andThen}
-use Rattle.tables.specs.Files.{fitting, output, startsWith, atLine, atEnd, checkFile, readWords, readAnswer, readOut, writeText, writeAnswer, writeOut}
+use Rattle.tables.specs.Answers.{number, isDone, andThen, fitting, output}
+use Rattle.tables.specs.Files.{startsWith, atLine, atEnd, checkFile, readWords, readAnswer, readOut, writeText, writeAnswer, writeOut}
 use Rattle.tables.specs.Trips.{upTo, fileIn, tableIn}
 use Rattle.tables.proofs.Answers.{unless-passed, andThen-passed}
 

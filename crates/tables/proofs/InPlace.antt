@@ -26,6 +26,6 @@ module _ (t rest u : List ℕ) where
   unfolding joinPool
   in-place-table a e = rw e (go (isDone a))
     where
-      go : (b : Bool) → take (length (cond b (t ++ u) t)) (cond b (take (length t) (t ++ rest) ++ u ++ drop (length t + length u) (t ++ rest)) (t ++ rest)) ≡ cond b (t ++ u) t
-      go true = rw (take-append-seam t rest) (take-append-seam (t ++ u) (drop (length t + length u) (t ++ rest)))
+      go : (b : Bool) → take (length (cond b (t ++ u) t)) (cond b ((take (length t) (t ++ rest) ++ u) ++ drop (length (take (length t) (t ++ rest) ++ u)) (t ++ rest)) (t ++ rest)) ≡ cond b (t ++ u) t
+      go true = rw (take-append-seam t rest) (take-append-seam (t ++ u) (drop (length (t ++ u)) (t ++ rest)))
       go false = take-append-seam t rest

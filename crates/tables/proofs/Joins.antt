@@ -154,4 +154,9 @@ module _ (pool : List ℕ) (used : ℕ) (t : List ℕ) where
 
       pub written : (out : List ℕ) → out ≡ sets pool used t → (Done n ≡ joinAnswer pool used t) × (out ≡ joinPool pool used t)
       unfolding joinPool
-      written out o = (sym (answer-is ∙ e), o ∙ sets-eq t pool used room-left ∙ sym (rw (answer-is, e)))
+      written out o = (sym (answer-is ∙ e), o ∙ sets-eq t pool used room-left ∙ past-answer ∙ sym (rw (answer-is, e)))
+        where
+          past-answer : (take used pool ++ t) ++ drop (used + length t) pool ≡ (take used pool ++ t) ++ drop (length (take used pool ++ t)) pool
+          past-answer =
+              let z : used + length t ≡ length (take used pool ++ t) = omega (arith, length-append (take used pool) t, length-take-le used pool l) in
+              ap (λ (n : ℕ). (take used pool ++ t) ++ drop n pool) z

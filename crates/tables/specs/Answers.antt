@@ -1,7 +1,9 @@
 -- What a call answers, in 01's numbers. Assumes nothing.
 use Prim.Native.Nat.{ℕ}
 use mathlib.Core.Bool.{Bool, true, false, cond}
-use mathlib.Core.List.{List, [], _∷_}
+use mathlib.Core.List.{List, [], _∷_, _++_}
+use lib.ListN.{length, drop}
+use lib.Dec.{leb}
 use Rattle.base.specs.Search.{first, some}
 use Rattle.tables.specs.declared.Answer.{Answer}
 use Rattle.tables.specs.declared.Answer.the-variants.{Done, Refused}
@@ -43,3 +45,11 @@ unlessAny fault k n next = cond (some fault n) (Refused k (first fault n)) next
 abbrev pub inOrder : (ℕ → ℕ → Bool) → ℕ → List ℕ → Answer
 inOrder fault n [] = Done n
 inOrder fault n (k ∷ ks) = unlessAny (fault k) k n (inOrder fault n ks)
+
+-- 17: the output is shorter than the answer
+abbrev pub fitting : List ℕ → ℕ → Answer
+fitting result room = unless (leb (length result) room) 17 (Done (length result))
+
+-- the output after a call: past the answer as it came, and all of it where the call is refused
+abbrev pub output : Answer → List ℕ → List ℕ → List ℕ
+output answer result out = cond (isDone answer) (result ++ drop (length result) out) out

@@ -5,7 +5,7 @@ use mathlib.Core.Bool.{Bool, true, false, cond, _&&_}
 use mathlib.Core.List.{List, [], _∷_, _++_}
 use lib.ListN.{length, drop}
 use lib.Dec.{ltb, leb, eqb}
-use Rattle.tables.specs.Answers.{isDone, andThen, unless}
+use Rattle.tables.specs.Answers.{isDone, andThen, unless, fitting, output}
 use Rattle.tables.specs.Words.{entryWords, rowWords}
 use Rattle.tables.specs.Rules.{checkRule}
 use Rattle.tables.specs.Tables.{checkTable}
@@ -160,14 +160,6 @@ checkFile names k file =
     (Refused 18 1)
 
 -- ---- the calls
--- 17: the output is shorter than the answer
-abbrev pub fitting : List ℕ → ℕ → Answer
-fitting result room = unless (leb (length result) room) 17 (Done (length result))
-
--- the output after a call: past the answer as it came, and all of it where the call is refused
-abbrev pub output : Answer → List ℕ → List ℕ → List ℕ
-output answer result out = cond (isDone answer) (result ++ drop (length result) out) out
-
 -- reading a file into a buffer of that many words: 18, 19, 17
 unfoldable pub readAnswer : List ℕ → ℕ → List ℕ → ℕ → Answer
 readAnswer names k file room = andThen (checkFile names k file) (fitting (readWords names k file) room)

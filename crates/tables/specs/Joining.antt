@@ -4,7 +4,7 @@ use mathlib.Core.Bool.{Bool, cond, _&&_, _||_}
 use mathlib.Core.List.{List, _++_}
 use lib.ListN.{length, take, drop}
 use lib.Dec.{ltb, leb, eqb}
-use Rattle.tables.specs.Answers.{andThen, unless, unlessAny, isDone}
+use Rattle.tables.specs.Answers.{andThen, unless, unlessAny, output}
 use Rattle.tables.specs.Words.{rowAt, rowCount}
 use Rattle.tables.specs.Tables.{rowFault, tableLength, checkTable}
 use Rattle.tables.specs.declared.Answer.{Answer}
@@ -33,5 +33,4 @@ joinAnswer pool used t = unless (leb used (length pool)) 8 (joinTables (take use
 
 -- the pool after it: the joined table and what stood past it, or as it was
 unfoldable pub joinPool : List ℕ → ℕ → List ℕ → List ℕ
-joinPool pool used t =
-    cond (isDone (joinAnswer pool used t)) (take used pool ++ t ++ drop (used + length t) pool) pool
+joinPool pool used t = output (joinAnswer pool used t) (take used pool ++ t) pool
