@@ -2,7 +2,7 @@
 use Prim.Native.Nat.{ℕ, zero, suc, _+_, _-_, _<_, _≤_}
 use mathlib.Core.Path.{_≡_, refl, sym, ap, ap₂, subst, fun-ext, _∙_}
 use mathlib.Core.Bool.{Bool, true, false, not, cond, _&&_, Bool·beq, true≢false, false≢true}
-use mathlib.Core.List.{List, [], _∷_, _++_, append-nil}
+use mathlib.Core.List.{List, [], _∷_, _++_}
 use native.Mathlib.Omega.{arith}
 use lib.ListN.{getD, set}
 use lib.Seq.{getD-set-same, getD-set-other}
@@ -10,7 +10,7 @@ use lib.Dec.{eqb}
 use borrow.Author.Tests.{eqb-true, eqb-false, eq-eqb}
 use Rattle.base.specs.Lists.{select, concatMap}
 use Rattle.base.specs.Search.{first}
-use Rattle.base.proofs.Bools.{either, and-left}
+use Rattle.base.proofs.Bools.{either}
 use Rattle.base.proofs.Lists.{concatMap-append}
 use Rattle.tables.specs.Words.{rowAt, rowCount, rows, entryAt}
 use Rattle.tables.specs.Rules.{nestingLimit}
@@ -18,7 +18,7 @@ use Rattle.tables.specs.declared.Row.{Row}
 use Rattle.tables.specs.declared.Entry.{Entry}
 use Rattle.logic.specs.Formulas.{Connective, and, or, implies, Quantifier, every, some, overOf, operandOf, formulaAt}
 use Rattle.logic.specs.Verdict as meaning
-use Rattle.logic.specs.Marks.{rowOf, rowsOf, leftDecides, rightDecides, because, witnesses, reason}
+use Rattle.logic.specs.Marks.{rowOf, rowsOf, because, witnesses, reason}
 use Rattle.logic.proofs.Folds.{fold-all}
 use Rattle.logic.proofs.Walks.{both-settled, both-decided, fold-append, fold-one}
 use Rattle.logic.proofs.Reasons.{witnesses-all}

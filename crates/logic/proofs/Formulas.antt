@@ -1,16 +1,15 @@
 -- The formula of an entry of an accepted rule is built from those of its children. Assumes nothing.
 use Prim.Native.Nat.{ℕ, zero, suc, _+_, _-_, _<_, _≤_}
-use mathlib.Core.Path.{_≡_, refl, sym, ap, ap₂, _∙_}
+use mathlib.Core.Path.{_≡_, refl, ap, ap₂, _∙_}
 use mathlib.Core.Bool.{true}
-use mathlib.Core.List.{List, [], _∷_}
+use mathlib.Core.List.{List}
 use native.Mathlib.Omega.{arith}
 use lib.ListN.{getD, drop}
 use lib.Seq.{getD-drop}
 use Rattle.tables.specs.Words.{entryAt, entryCount}
 use Rattle.tables.specs.Rules.{acceptedRule}
-use Rattle.tables.specs.declared.Entry.{Entry}
 use Rattle.tables.proofs.AcceptedRule.{child-later, right-later}
-use Rattle.logic.specs.Formulas.{Formula, negation, joined, quantified, compared, every, some, and, or, implies, equal, less, atMost, overOf, operandOf, noFormula, build, formulas, formulaAt}
+use Rattle.logic.specs.Formulas.{Formula, negation, joined, quantified, every, some, and, or, implies, overOf, noFormula, build, formulas, formulaAt}
 
 -- the formula of entry i + k, over those that follow it
 formulas-at : (r : List ℕ) (i n k : ℕ) → k < n

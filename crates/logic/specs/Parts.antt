@@ -1,13 +1,12 @@
 -- 01, Spare rows, and Parts and joining: which rows a device may keep to itself, and the three kinds of part. Assumes nothing.
-use Prim.Native.Nat.{ℕ, suc, _*_}
-use mathlib.Core.Path.{_≡_}
+use Prim.Native.Nat.{ℕ, suc}
 use mathlib.Core.Bool.{Bool, true, false, not, cond, _&&_, _||_}
-use mathlib.Core.List.{List, [], _∷_, _++_, reverse, map}
-use lib.ListN.{length, drop}
-use lib.Dec.{eqb, ltb, leb}
-use Rattle.base.specs.Lists.{select, when, concatMap, all, any, _∈_}
+use mathlib.Core.List.{List, [], _∷_, reverse, map}
+use lib.ListN.{length}
+use lib.Dec.{eqb, leb}
+use Rattle.base.specs.Lists.{select, when, concatMap, all, any}
 use Rattle.tables.specs.Answers.{andThen, unless, unlessAny, output}
-use Rattle.tables.specs.Words.{rows, rowAt, rowCount, rowWords}
+use Rattle.tables.specs.Words.{rows, rowAt, rowCount}
 use Rattle.tables.specs.Rules.{checkRule}
 use Rattle.tables.specs.Tables.{root, isParent, checkTable}
 use Rattle.tables.specs.declared.Row.{Row}

@@ -1,8 +1,8 @@
 -- What the part call answers and writes, by the checks on the way. Assumes nothing.
 use Prim.Native.Nat.{ℕ, _+_, _*_, _<_, _≤_}
 use mathlib.Core.Path.{_≡_, refl, sym, ap, ap₂, _∙_}
-use mathlib.Core.Bool.{Bool, true, false, not, cond, _&&_, true≢false, false≢true}
-use mathlib.Core.List.{List, [], _∷_, _++_}
+use mathlib.Core.Bool.{Bool, true, false, not, cond, _&&_, false≢true}
+use mathlib.Core.List.{List, _++_}
 use native.Mathlib.Omega.{arith}
 use lib.ListN.{length, getD, drop}
 use lib.Seq.{sets, sets-eq}
@@ -11,16 +11,16 @@ use borrow.Author.Tests.{eq-eqb, ne-eqb, eqb-true, lt-ltb, le-ltb, le-leb, lt-le
 use Rattle.base.specs.Search.{first, some, sumBelow}
 use Rattle.tables.specs.Answers.{isDone, andThen, unless, unlessAny}
 use Rattle.tables.specs.Words.{rowAt, rowCount, rows}
-use Rattle.tables.specs.Rules.{checkRule, acceptedRule}
-use Rattle.tables.specs.Tables.{checkTable, acceptedTable}
+use Rattle.tables.specs.Rules.{checkRule}
+use Rattle.tables.specs.Tables.{checkTable}
 use Rattle.tables.specs.declared.Row.{Row}
 use Rattle.tables.specs.declared.Answer.{Answer}
 use Rattle.tables.specs.declared.Answer.the-variants.{Done, Refused}
-use Rattle.tables.proofs.Answers.{unless-ok, unless-next, andThen-first, andThen-next, none-of}
+use Rattle.tables.proofs.Answers.{unless-next, andThen-first, andThen-next, none-of}
 use Rattle.logic.specs.Formulas.{formula}
 use Rattle.logic.specs.Parts.{contradiction, partOf, wordsOf, otherDevice, partAnswer, partOut}
 use Rattle.logic.proofs.Words.{length-words}
-use Rattle.parts.specs.Keeping.{OneDevice, ReadyPart, Keeps}
+use Rattle.parts.specs.Keeping.{ReadyPart, Keeps}
 use Rattle.parts.specs.Sending.{rowsSent, requestAnswer, Chooses}
 use Rattle.parts.specs.declared.keeping.Kept.{Kept}
 use Rattle.parts.specs.declared.calls.Choice.{Choice}

@@ -2,16 +2,14 @@
 use Prim.Native.Nat.{ℕ, zero, suc, _+_, _-_, _<_, _≤_}
 use mathlib.Core.Path.{_≡_, refl, sym, ap, ap₂, subst, _∙_}
 use mathlib.Core.Logic.{⊎-elim}
-use mathlib.Core.Bool.{Bool, true, false, cond, _&&_, and-false, false≢true}
-use mathlib.Core.List.{List, [], _∷_, _++_, map, append-nil}
+use mathlib.Core.Bool.{Bool, true, false, cond, and-false, false≢true}
+use mathlib.Core.List.{List, [], _∷_, map, append-nil}
 use native.Mathlib.Nat.{eq-or-lt-of-le}
 use native.Mathlib.Omega.{arith}
-use lib.ListN.{length, getD}
-use lib.Dec.{eqb}
+use lib.ListN.{getD}
 use borrow.Author.Tests.{eq-eqb, ne-eqb}
-use Rattle.base.specs.Lists.{select, when, concatMap}
-use Rattle.tables.specs.Words.{rowAt, rowCount, rows, entryAt, entryCount}
-use Rattle.tables.specs.Rules.{nestingLimit}
+use Rattle.base.specs.Lists.{select, when}
+use Rattle.tables.specs.Words.{rowAt, rows, entryAt}
 use Rattle.tables.specs.Tables.{root, isParent}
 use Rattle.tables.specs.declared.Row.{Row}
 use Rattle.tables.specs.declared.Entry.{Entry}
@@ -19,11 +17,11 @@ use Rattle.tables.proofs.Accepted.{few-rows}
 use Rattle.logic.specs.Formulas.{Over, roots, under, overOf}
 use Rattle.logic.specs.Verdict as meaning
 use Rattle.logic.specs.Parts.{Chains, chainsWith, reach}
-use Rattle.engine.specs.Places.{fresh, bindAt, placeOf, bindingsOf}
+use Rattle.engine.specs.Places.{fresh}
 use Rattle.engine.specs.Ready.{Placed, meant}
 use Rattle.engine.specs.declared.bindings.Bindings.{Bindings}
 use Rattle.engine.proofs.Bound.{meant-fresh, placed-fresh, depth-bind, placed-bind, meant-bind, place-row}
-use Rattle.parts.specs.Reaching.{parentOf, Parents, chainsBelow, reachAt, Around, notReached, bindsFrom, chainOf, ReadyClimb, Climbed}
+use Rattle.parts.specs.Reaching.{parentOf, chainsBelow, reachAt, notReached, bindsFrom, chainOf, ReadyClimb, Climbed}
 use Rattle.parts.specs.declared.chains.Chain.{Chain}
 use Rattle.parts.proofs.Parentage.{no-parents, parent-before, one-parent}
 

@@ -1,13 +1,13 @@
 -- The code's operations on readings, by the kind of the entry, and what they are in 01's readings. Assumes nothing.
 use Prim.Native.Nat.{ℕ, _-_, _≤_}
-use mathlib.Core.Path.{_≡_, refl, sym, ap, ap₂, subst, _∙_}
+use mathlib.Core.Path.{_≡_, refl, ap, ap₂, subst, _∙_}
 use mathlib.Core.Logic.{⊎-elim}
 use mathlib.Core.Bool.{Bool, true, false, cond, not, true≢false, false≢true}
 use native.Mathlib.Nat.{eq-or-lt-of-le}
 use native.Mathlib.Omega.{arith}
 use lib.Dec.{eqb}
 use borrow.Author.Tests.{eq-eqb, ne-eqb, eqb-true}
-use Rattle.logic.specs.Formulas.{Connective, and, or, implies, Quantifier, every, some}
+use Rattle.logic.specs.Formulas.{and, or, implies, Quantifier, every, some}
 use Rattle.logic.specs.Verdict.{settled}
 use Rattle.logic.specs.Reading as meaning
 use Rattle.engine.specs.Ready.{connectiveOf, quantifierOf}

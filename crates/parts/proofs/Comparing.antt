@@ -1,5 +1,5 @@
 -- A comparison's reading, by the places of its variables. Assumes nothing.
-use Prim.Native.Nat.{ℕ, zero, suc, _-_, _<_, _≤_}
+use Prim.Native.Nat.{ℕ, suc, _-_}
 use mathlib.Core.Path.{_≡_, refl, sym, ap, ap₂, _∙_}
 use mathlib.Core.Bool.{Bool, true, false}
 use mathlib.Core.List.{List}
@@ -10,7 +10,7 @@ use borrow.Author.Tests.{eq-eqb, ne-eqb}
 use Rattle.tables.specs.Words.{rowAt}
 use Rattle.tables.specs.declared.Row.{Row}
 use Rattle.tables.specs.declared.Entry.{Entry}
-use Rattle.logic.specs.Formulas.{Operand, variable, constant, operandOf}
+use Rattle.logic.specs.Formulas.{variable, constant, operandOf}
 use Rattle.logic.specs.Verdict.{compare}
 use Rattle.logic.specs.Reading as meaning
 use Rattle.engine.specs.Ready.{meant, comparisonOf}

@@ -2,7 +2,7 @@
 use Prim.Native.Nat.{ℕ, _+_, _<_, _≤_}
 use mathlib.Core.Path.{_≡_, sym, ap, _∙_}
 use mathlib.Core.Logic.{⊎-elim}
-use mathlib.Core.Bool.{Bool, true, false, true≢false}
+use mathlib.Core.Bool.{false}
 use mathlib.Core.List.{List}
 use native.Mathlib.Nat.{eq-or-lt-of-le}
 use native.Mathlib.Omega.{arith}
@@ -14,7 +14,7 @@ use Rattle.base.proofs.Bools.{either}
 use Rattle.tables.specs.Words.{rowAt, rowCount}
 use Rattle.tables.specs.Tables.{isParent}
 use Rattle.tables.proofs.Accepted.{few-rows}
-use Rattle.parts.specs.Reaching.{parentOf, Parents, EndsWithin}
+use Rattle.parts.specs.Reaching.{Parents, EndsWithin}
 use Rattle.parts.specs.Keeping.{OneDevice}
 use Rattle.parts.proofs.Parentage.{held-le, only-parent}
 

@@ -1,6 +1,6 @@
 -- The bodies of a quantifier's rows together: in two lists, in one row, and the first test of a quantifier over roots. Assumes nothing.
-use mathlib.Core.Path.{_≡_, refl, sym, ap, ap₂, _∙_}
-use mathlib.Core.Bool.{Bool, true, false, not, _&&_, _||_}
+use mathlib.Core.Path.{_≡_, refl, sym, ap, _∙_}
+use mathlib.Core.Bool.{Bool, true, false, not, _||_}
 use mathlib.Core.List.{List, [], _∷_, _++_}
 use Rattle.tables.specs.declared.Row.{Row}
 use Rattle.logic.specs.Formulas.{Quantifier, every, some}

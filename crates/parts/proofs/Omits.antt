@@ -1,5 +1,5 @@
 -- One law for each way through the test whether a row is left out by itself, over plain variables. Assumes nothing.
-use Prim.Native.Nat.{ℕ, zero, suc, _+_, _-_, _<_, _≤_}
+use Prim.Native.Nat.{ℕ, suc, _+_, _<_, _≤_}
 use mathlib.Core.Path.{_≡_, refl, sym, ap, ap₂, subst, _∙_}
 use mathlib.Core.Logic.{⊎-elim}
 use mathlib.Core.Bool.{Bool, true, false, not, cond, _&&_, _||_, true≢false, false≢true}
@@ -12,8 +12,7 @@ use lib.Seq.{getD-set-same, getD-set-other}
 use lib.Dec.{eqb}
 use borrow.Author.Tests.{eq-eqb, ne-eqb}
 use Rattle.base.specs.Lists.{when, all, any}
-use Rattle.base.proofs.Bools.{either}
-use Rattle.tables.specs.Words.{rowAt, rowCount, rows, entryAt, entryCount}
+use Rattle.tables.specs.Words.{rowAt, rows, entryAt, entryCount}
 use Rattle.tables.specs.Rules.{nestingLimit, around}
 use Rattle.tables.specs.declared.Row.{Row}
 use Rattle.tables.specs.declared.Entry.{Entry}
@@ -21,11 +20,11 @@ use Rattle.logic.specs.Formulas.{Formula, negation, joined, quantified, compare
 use Rattle.logic.specs.Verdict.{Bindings, settled}
 use Rattle.logic.specs.Reading.{reading, reads}
 use Rattle.logic.specs.Parts.{Chains, chainsWith, reach, reachedIn, spareIn}
-use Rattle.engine.specs.Ready.{quantifierOf, Placed, meant, Ready}
+use Rattle.engine.specs.Ready.{quantifierOf, meant}
 use Rattle.engine.proofs.Opened.{Opened, opened, not-formula, joined-formula, quantified-formula, compared-formula}
-use Rattle.parts.specs.Codes.{codeOf, ofBool, ends, endsLeft, settlesKind}
+use Rattle.parts.specs.Codes.{ofBool, ends, endsLeft, settlesKind}
 use Rattle.parts.specs.Device.{readAt}
-use Rattle.parts.specs.Reaching.{withBinder, Parents, chainsBelow, reachAt, Around, chainOf, ReadyClimb, Climbed}
+use Rattle.parts.specs.Reaching.{withBinder, chainsBelow, reachAt, chainOf, ReadyClimb, Climbed}
 use Rattle.parts.specs.Omitting.{omittedIn, letsOut, ReadyBody, omittedAt, ReadyOmit}
 use Rattle.parts.specs.declared.readings.Reading.{Reading}
 use Rattle.parts.specs.declared.readings.Reading.the-variants.{True, False}

@@ -1,14 +1,11 @@
 -- A row of an accepted table has at most one parent, an earlier row, which the search among the rows before it finds. Assumes nothing.
-use Prim.Native.Nat.{ℕ, _+_, _-_, _<_, _≤_}
-use mathlib.Core.Path.{_≡_, refl, sym, ap, _∙_}
+use Prim.Native.Nat.{ℕ, _<_, _≤_}
+use mathlib.Core.Path.{_≡_, sym, _∙_}
 use mathlib.Core.Bool.{Bool, true, false, true≢false}
 use mathlib.Core.List.{List, [], _∷_}
 use native.Mathlib.Omega.{arith}
 use lib.ListN.{getD}
-use lib.Dec.{ltb}
-use borrow.Author.Tests.{ltb-true, ltb-false}
 use Rattle.base.specs.Lists.{select}
-use Rattle.base.specs.Search.{first}
 use Rattle.base.proofs.Bools.{either}
 use Rattle.base.proofs.Search.{first-le, none-before, at-first}
 use Rattle.tables.specs.Words.{rowAt, rowCount, rows, rowsFrom}

@@ -1,17 +1,16 @@
 -- The rows that are written: their number, their words row by row, and that they are 01's part. Assumes nothing.
-use Prim.Native.Nat.{ℕ, zero, suc, _+_, _-_, _*_, _<_, _≤_}
+use Prim.Native.Nat.{ℕ, zero, suc, _+_, _-_, _<_, _≤_}
 use mathlib.Core.Path.{_≡_, refl, sym, ap, ap₂, fun-ext, _∙_}
-use mathlib.Core.Bool.{Bool, true, false, not, cond, _&&_, false≢true}
+use mathlib.Core.Bool.{Bool, true, false, not, cond, _&&_}
 use mathlib.Core.List.{List, [], _∷_, _++_}
 use native.Mathlib.Numerals.{add-one}
 use native.Mathlib.Omega.{arith}
-use lib.ListN.{length, getD, set, take, drop, length-append}
+use lib.ListN.{length, getD, set, length-append}
 use lib.Seq.{sets, length-sets}
 use lib.Dec.{eqb}
 use borrow.Author.Tests.{eq-eqb, ne-eqb}
 use Rattle.base.specs.Lists.{put, select, when, all}
 use Rattle.base.specs.Search.{sumBelow}
-use Rattle.base.proofs.Bools.{either}
 use Rattle.base.proofs.Lists.{concatMap-append, select-all}
 use Rattle.tables.specs.Words.{rowAt, rowCount, rowsFrom, rows}
 use Rattle.tables.specs.Rules.{one}
@@ -21,7 +20,7 @@ use Rattle.logic.specs.Formulas.{Formula, formula}
 use Rattle.logic.specs.Parts.{reached, spare, ancestors, partBy, branchPart, fullPart, partOf, wordsOf}
 use Rattle.logic.proofs.Walks.{select-halves}
 use Rattle.parts.specs.Sending.{rowSent, rowsSent}
-use Rattle.parts.specs.Keeping.{passes, stays, Marked}
+use Rattle.parts.specs.Keeping.{stays, Marked}
 
 -- ---- how many
 pub sum-more : (f : ℕ → ℕ) (i n : ℕ) → n ≡ sumBelow f i → n + f i ≡ sumBelow f (i + 1)

@@ -1,18 +1,17 @@
 -- A row stays where it passes its mode's test and it is a root or its parent stays. Assumes nothing.
-use Prim.Native.Nat.{ℕ, zero, suc, _<_, _≤_}
-use mathlib.Core.Path.{_≡_, refl, sym, ap, ap₂, subst, _∙_}
+use Prim.Native.Nat.{ℕ, _<_, _≤_}
+use mathlib.Core.Path.{_≡_, refl, sym, ap, subst, _∙_}
 use mathlib.Core.Bool.{Bool, true, false, not, cond, _&&_, _||_, and-false, and-true, true≢false, false≢true}
-use mathlib.Core.List.{List, []}
+use mathlib.Core.List.{List}
 use native.Mathlib.Omega.{arith}
 use lib.ListN.{length, getD}
 use lib.Dec.{eqb}
 use borrow.Author.Tests.{eq-eqb, ne-eqb, eqb-true, eqb-false}
-use Rattle.base.specs.Lists.{all, _∈_}
-use Rattle.base.specs.Search.{first}
+use Rattle.base.specs.Lists.{all}
 use Rattle.base.proofs.Bools.{either}
 use Rattle.base.proofs.Search.{none-before}
 use Rattle.tables.specs.Words.{rowAt, rowCount, rows}
-use Rattle.tables.specs.Rules.{one, around, aroundFrom}
+use Rattle.tables.specs.Rules.{one, aroundFrom}
 use Rattle.tables.specs.Tables.{root, isParent}
 use Rattle.tables.specs.declared.Row.{Row}
 use Rattle.tables.proofs.Accepted.{few-rows, has-parent}
@@ -20,13 +19,13 @@ use Rattle.tables.proofs.AcceptedRule.{some-entry}
 use Rattle.tables.proofs.RowLists.{row-in}
 use Rattle.tables.proofs.Proper.{rows-proper}
 use Rattle.logic.specs.Formulas.{Formula, formula}
-use Rattle.logic.specs.Parts.{reached, spare, ancestors, contradiction}
+use Rattle.logic.specs.Parts.{reached, spare, ancestors}
 use Rattle.logic.proofs.Ancestors.{stays-child, stays-root}
 use Rattle.logic.proofs.Contradiction.{no-contradiction}
 use Rattle.parts.specs.Codes.{ofBool, flipped}
 use Rattle.parts.specs.Reaching.{parentOf, noBinders, chainsBelow}
-use Rattle.parts.specs.Omitting.{omittedIn, omittedAt, ReadyOmit}
-use Rattle.parts.specs.Keeping.{OneDevice, ReadyPart, numberOf, leftOut, passes, stays, Marked, ReadyRow, Keeps}
+use Rattle.parts.specs.Omitting.{omittedAt, ReadyOmit}
+use Rattle.parts.specs.Keeping.{OneDevice, numberOf, leftOut, passes, stays, Marked, ReadyRow, Keeps}
 use Rattle.parts.specs.declared.readings.Reading.{Reading}
 use Rattle.parts.specs.declared.chains.Binders.{Binders}
 use Rattle.parts.specs.declared.keeping.Kept.{Kept}

@@ -2,34 +2,33 @@
 use Prim.Native.Nat.{ℕ, zero, suc, _+_, _-_, _<_, _≤_}
 use mathlib.Core.Path.{_≡_, refl, sym, ap, ap₂, subst, fun-ext, _∙_}
 use mathlib.Core.Bool.{Bool, true, false, not, cond, _&&_, true≢false}
-use mathlib.Core.List.{List, [], _∷_, _++_}
+use mathlib.Core.List.{List}
 use native.Mathlib.Omega.{arith}
 use lib.ListN.{getD}
 use lib.Dec.{eqb}
-use Rattle.base.specs.Lists.{select}
 use Rattle.base.specs.Search.{first}
 use Rattle.base.proofs.Bools.{either, and-left}
-use Rattle.tables.specs.Words.{rowAt, rowCount, rows, rowsFrom, entryAt, entryCount}
-use Rattle.tables.specs.Tables.{acceptedTable, isParent}
+use Rattle.tables.specs.Words.{rowAt, rowCount, rows, entryAt}
+use Rattle.tables.specs.Tables.{isParent}
 use Rattle.tables.specs.declared.Row.{Row}
 use Rattle.tables.specs.declared.Entry.{Entry}
 use Rattle.tables.proofs.Accepted.{behind, few-rows}
 use Rattle.logic.specs.Formulas.{Quantifier, overOf, formulaAt}
-use Rattle.logic.specs.Verdict.{Place, nothing, bound, bind, named, hangs, ranges, settled}
+use Rattle.logic.specs.Verdict.{Place, nothing, bound, named, hangs, ranges, settled}
 use Rattle.logic.specs.Reading as meaning
 use Rattle.logic.proofs.Walks.{select-span}
 use Rattle.logic.proofs.Monotone.{tests-exclude}
-use Rattle.engine.specs.Places.{bindAt, placeOf, bindingsOf}
-use Rattle.engine.specs.Ready.{connectiveOf, quantifierOf, Placed, meant, rangesAt, Ready, ReadyRows, rangedFrom}
+use Rattle.engine.specs.Places.{bindAt, placeOf}
+use Rattle.engine.specs.Ready.{quantifierOf, Placed, meant, rangesAt, Ready, ReadyRows, rangedFrom}
 use Rattle.engine.specs.declared.bindings.Bindings.{Bindings}
 use Rattle.engine.proofs.Bound.{depth-bind, meant-bind, place-row}
 use Rattle.engine.proofs.Opened.{Opened, not-formula, joined-formula, quantified-formula, compared-formula}
 use Rattle.engine.proofs.Steps.{entry, room, part-ready, ranged-none, ranged-halves, ranged-one}
 use Rattle.parts.specs.Codes.{codeOf, ofBool, flipped, joinCode, endsLeft, overKind, settlesKind}
-use Rattle.parts.specs.Device.{placeUnder, hangsAt, rangedAt, comparedAt, readAt, bodyAt, sweepAt, ReadySweep}
+use Rattle.parts.specs.Device.{placeUnder, rangedAt, comparedAt, readAt, bodyAt, sweepAt, ReadySweep}
 use Rattle.parts.specs.Reaching.{Ends}
 use Rattle.parts.specs.declared.readings.Reading.{Reading}
-use Rattle.parts.specs.declared.readings.Reading.the-variants.{True, False, Open, Both}
+use Rattle.parts.specs.declared.readings.Reading.the-variants.{Open}
 use Rattle.parts.proofs.Codes.{flips, join-code, join-decided, both-code, both-decided, settled-code, settles-code, roots-read, over-code}
 use Rattle.parts.proofs.Folding.{under-append, under-one, first-test}
 use Rattle.parts.proofs.Spans.{at-nothing, at-row, place-named, ranges-place}

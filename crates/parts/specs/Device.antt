@@ -1,19 +1,16 @@
 -- What the private functions of the device's side require and promise of a reading. A reader of the public contract need not believe it.
 -- Assumes nothing.
-use Prim.Native.Nat.{ℕ, zero, suc, _+_, _-_, _<_, _≤_}
-use mathlib.Core.Path.{_≡_}
-use mathlib.Core.Bool.{Bool, true, cond, _&&_}
+use Prim.Native.Nat.{ℕ, zero, suc, _<_}
+use mathlib.Core.Bool.{Bool, _&&_}
 use mathlib.Core.List.{List}
 use lib.ListN.{getD}
-use lib.Dec.{eqb}
-use Rattle.base.specs.Lists.{select}
-use Rattle.tables.specs.Words.{rowAt, rowCount, rows, rowsFrom, entryAt}
+use Rattle.tables.specs.Words.{rowAt, rows, entryAt}
 use Rattle.tables.specs.Tables.{root, isParent}
 use Rattle.tables.specs.declared.Entry.{Entry}
-use Rattle.logic.specs.Formulas.{overOf, operandOf, formulaAt}
+use Rattle.logic.specs.Formulas.{operandOf, formulaAt}
 use Rattle.logic.specs.Verdict.{Place, bind, named}
 use Rattle.logic.specs.Reading as meaning
-use Rattle.engine.specs.Ready.{Placed, Ready, ReadyRows, meant, rangedFrom, quantifierOf, comparisonOf}
+use Rattle.engine.specs.Ready.{ReadyRows, meant, rangedFrom, quantifierOf, comparisonOf}
 use Rattle.engine.specs.declared.bindings.Bindings.{Bindings}
 use Rattle.parts.specs.Codes.{codeOf}
 use Rattle.parts.specs.declared.readings.Reading.{Reading}

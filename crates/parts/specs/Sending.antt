@@ -2,7 +2,7 @@
 -- not believe it. Assumes nothing.
 use Prim.Native.Nat.{ℕ, zero, suc, _≤_}
 use mathlib.Core.Path.{_≡_}
-use mathlib.Core.Bool.{Bool, true, not, _&&_}
+use mathlib.Core.Bool.{true, not, _&&_}
 use mathlib.Core.List.{List, [], _∷_, _++_}
 use lib.ListN.{getD, length}
 use lib.Dec.{eqb, leb}
@@ -13,7 +13,6 @@ use Rattle.tables.specs.Rules.{checkRule}
 use Rattle.tables.specs.Tables.{checkTable}
 use Rattle.tables.specs.declared.Row.{Row}
 use Rattle.tables.specs.declared.Answer.{Answer}
-use Rattle.tables.specs.declared.Answer.the-variants.{Done}
 use Rattle.logic.specs.Formulas.{formula}
 use Rattle.logic.specs.Parts.{otherDevice, partOf, wordsOf, partAnswer}
 use Rattle.parts.specs.declared.calls.Choice.{Choice}

@@ -15,7 +15,7 @@ use super::words::row_count;
 use engine::Bindings;
 use tables::Entry;
 ghost use mathlib.Core.Path.{_≡_};
-ghost use Prim.Native.Nat.{ℕ, _+_, _<_, _≤_};
+ghost use Prim.Native.Nat.{_+_, _<_};
 ghost use Rattle.logic.specs.Verdict.{compare};
 ghost use Rattle.engine.specs.Ready.{Placed, comparisonOf, Ready};
 ghost use Rattle.parts.specs.Codes.{codeOf};

@@ -1,6 +1,5 @@
 // True, false or open, as the code answers them.
 ghost use mathlib.Core.Path.{_≡_};
-ghost use mathlib.Core.Bool.{Bool};
 ghost use Rattle.parts.specs.Codes.{ofBool, flipped, andCode, joinCode, ends, endsLeft, overCode, overKind, isTrue, settlesKind};
 
 // What an entry reads; or `Both`, where one quantifier over roots meets both its tests.

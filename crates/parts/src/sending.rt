@@ -2,14 +2,11 @@
 use super::words::row_at;
 use super::words::row_count;
 ghost use mathlib.Core.Path.{_≡_};
-ghost use mathlib.Core.List.{[], _∷_};
 ghost use Prim.Native.Nat.{ℕ, _+_, _*_, _<_, _≤_};
 ghost use lib.ListN.{length, getD};
 ghost use lib.Seq.{sets};
-ghost use lib.Dec.{eqb};
-ghost use Rattle.base.specs.Lists.{when};
 ghost use Rattle.base.specs.Search.{sumBelow};
-ghost use Rattle.tables.specs.Words.{rowAt, rowCount};
+ghost use Rattle.tables.specs.Words.{rowCount};
 ghost use Rattle.logic.specs.Parts.{wordsOf};
 ghost use Rattle.parts.specs.Sending.{rowSent, rowsSent};
 

@@ -1,8 +1,8 @@
 -- What an accepted rule tells of its entries: kinds, children later and named once, nesting, variables bound. Assumes nothing.
-use Prim.Native.Nat.{ℕ, zero, suc, _+_, _*_, _/_, _%_, _≤_, _<_}
-use mathlib.Core.Path.{_≡_, refl, sym, ap, _∙_}
+use Prim.Native.Nat.{ℕ, zero, suc, _+_, _*_, _%_, _≤_, _<_}
+use mathlib.Core.Path.{_≡_, refl, ap, _∙_}
 use mathlib.Core.Logic.{⊎-elim}
-use mathlib.Core.Bool.{Bool, true, false, cond, not, _&&_, _||_, false≢true, true≢false}
+use mathlib.Core.Bool.{Bool, true, false, _&&_, _||_, false≢true}
 use mathlib.Core.List.{List, [], _∷_, List·Memᴰ·head, List·Memᴰ·tail}
 use native.Mathlib.Nat.{eq-or-lt-of-le, div-add-mod'}
 use native.Mathlib.Omega.{arith}
@@ -12,9 +12,9 @@ use borrow.Author.Tests.{lt-ltb, ltb-false, leb-true, leb-false, eqb-true, eq-eq
 use Rattle.base.specs.Lists.{_∈_}
 use Rattle.base.specs.Search.{sumBelow}
 use Rattle.base.proofs.Bools.{either, and-left, and-right, and-both, or-left, or-right}
-use Rattle.tables.specs.Answers.{isDone, inOrder}
+use Rattle.tables.specs.Answers.{inOrder}
 use Rattle.tables.specs.Words.{whole, entryWords, entryAt, entryCount}
-use Rattle.tables.specs.Rules.{nestingLimit, isQuantifier, isConnective, isComparison, hasChild, one, namings, isChild, timesNamed, aroundFrom, around, unknownKind, badWord, badPlace, badChild, badNaming, tooDeep, unbound, entryFault, ruleLength, checkRule, acceptedRule}
+use Rattle.tables.specs.Rules.{nestingLimit, isQuantifier, isConnective, isComparison, hasChild, one, namings, isChild, timesNamed, aroundFrom, around, unknownKind, badPlace, badChild, badNaming, tooDeep, unbound, entryFault, ruleLength, checkRule, acceptedRule}
 use Rattle.tables.specs.declared.Entry.{Entry}
 use Rattle.tables.proofs.Answers.{unless-ok, unless-next, no-fault}
 

@@ -1,17 +1,17 @@
 -- What joining answers at each way out. Assumes nothing.
-use Prim.Native.Nat.{ℕ, _+_, _-_, _*_, _/_, _%_, _≤_, _<_}
-use mathlib.Core.Path.{_≡_, refl, sym, ap, _∙_}
-use mathlib.Core.Bool.{Bool, true, false, cond, _&&_, _||_}
+use Prim.Native.Nat.{ℕ, _+_, _-_, _/_, _%_, _≤_, _<_}
+use mathlib.Core.Path.{_≡_, sym, ap, _∙_}
+use mathlib.Core.Bool.{Bool, true, false}
 use mathlib.Core.List.{List, _++_}
 use native.Mathlib.Omega.{arith}
-use lib.Dec.{eqb, ltb, leb}
+use lib.Dec.{ltb, leb}
 use lib.ListN.{length, take, drop, length-append}
 use lib.Seq.{sets, sets-eq, length-take-le}
 use borrow.Author.Tests.{eq-eqb, ne-eqb, lt-ltb, le-ltb, le-leb, lt-leb, leb-true}
 use Rattle.base.specs.Search.{first}
-use Rattle.tables.specs.Answers.{isDone, andThen, unless, unlessAny}
-use Rattle.tables.specs.Words.{rowAt, rowCount, rowWords, whole}
-use Rattle.tables.specs.Tables.{rowFault, hasTwin, tableLength, checkTable, acceptedTable}
+use Rattle.tables.specs.Answers.{isDone, unless, unlessAny}
+use Rattle.tables.specs.Words.{rowAt, rowCount}
+use Rattle.tables.specs.Tables.{rowFault, tableLength, checkTable, acceptedTable}
 use Rattle.tables.specs.Chains.{linkFault}
 use Rattle.tables.specs.Joining.{follows, joinTables, joinAnswer, joinPool}
 use Rattle.tables.specs.declared.Row.{Row}

@@ -1,15 +1,14 @@
 -- The rows of a device as a run of words. Assumes nothing.
-use Prim.Native.Nat.{ℕ, _+_, _*_, _/_, _≤_, _<_}
-use mathlib.Core.Path.{_≡_, sym, ap, _∙_}
-use mathlib.Core.Bool.{Bool, true, false, cond, _&&_, and-false}
+use Prim.Native.Nat.{ℕ, _+_, _*_, _≤_, _<_}
+use mathlib.Core.Path.{_≡_, ap, _∙_}
+use mathlib.Core.Bool.{true, false, and-false}
 use mathlib.Core.List.{List}
 use native.Mathlib.Omega.{arith}
-use lib.Dec.{ltb, leb}
-use lib.ListN.{length}
+use lib.Dec.{leb}
 use borrow.Author.Tests.{lt-ltb, le-ltb}
 use Rattle.base.proofs.Search.{first-le}
 use Rattle.tables.specs.Words.{rowAt, rowCount}
-use Rattle.tables.specs.Tables.{checkTable, acceptedTable}
+use Rattle.tables.specs.Tables.{acceptedTable}
 use Rattle.tables.specs.Devices.{fromDevice, hasDevice, deviceStart, deviceEnd}
 use Rattle.tables.specs.Spans.{IsSpan}
 

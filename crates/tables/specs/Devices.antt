@@ -1,9 +1,9 @@
 -- 01, Around the engine: one device's rows as a part of the pool's own table. Assumes nothing.
-use Prim.Native.Nat.{ℕ, _+_, _-_, _*_, _≤_}
+use Prim.Native.Nat.{ℕ, _+_, _-_, _*_}
 use mathlib.Core.Path.{_≡_}
 use mathlib.Core.Bool.{Bool, cond, _&&_}
 use mathlib.Core.List.{List}
-use lib.ListN.{length, take, drop}
+use lib.ListN.{take, drop}
 use lib.Dec.{ltb, leb}
 use denote.Ref.{RefT, ptr, now}
 use Rattle.base.specs.Search.{first}

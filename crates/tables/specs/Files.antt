@@ -5,7 +5,7 @@ use mathlib.Core.Bool.{Bool, true, false, cond, _&&_}
 use mathlib.Core.List.{List, [], _∷_, _++_}
 use lib.ListN.{length, drop}
 use lib.Dec.{ltb, leb, eqb}
-use Rattle.tables.specs.Answers.{isDone, andThen, unless, fitting, output}
+use Rattle.tables.specs.Answers.{isDone, andThen, fitting, output}
 use Rattle.tables.specs.Words.{entryWords, rowWords}
 use Rattle.tables.specs.Rules.{checkRule}
 use Rattle.tables.specs.Tables.{checkTable}

@@ -1,14 +1,14 @@
 -- 01, Parts and joining: joining puts a table after another whose last device is smaller. Assumes nothing.
-use Prim.Native.Nat.{ℕ, _+_, _-_}
-use mathlib.Core.Bool.{Bool, cond, _&&_, _||_}
+use Prim.Native.Nat.{ℕ, _-_}
+use mathlib.Core.Bool.{Bool, _||_}
 use mathlib.Core.List.{List, _++_}
-use lib.ListN.{length, take, drop}
+use lib.ListN.{length, take}
 use lib.Dec.{ltb, leb, eqb}
 use Rattle.tables.specs.Answers.{andThen, unless, unlessAny, output}
 use Rattle.tables.specs.Words.{rowAt, rowCount}
 use Rattle.tables.specs.Tables.{rowFault, tableLength, checkTable}
 use Rattle.tables.specs.declared.Answer.{Answer}
-use Rattle.tables.specs.declared.Answer.the-variants.{Done, Refused}
+use Rattle.tables.specs.declared.Answer.the-variants.{Done}
 
 -- the second table's first device is above the first one's last; an empty side always fits
 abbrev pub follows : List ℕ → List ℕ → Bool

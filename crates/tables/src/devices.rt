@@ -4,8 +4,7 @@ use super::rows::DEVICE;
 use super::rows::ROW_WORDS;
 use super::tables::check_table;
 ghost use mathlib.Core.Path.{_≡_};
-ghost use Prim.Native.Nat.{_+_, _*_, _≤_};
-ghost use lib.ListN.{length};
+ghost use Prim.Native.Nat.{_+_, _*_};
 ghost use Rattle.tables.specs.Devices.{fromDevice, deviceStart, deviceEnd, IsPart};
 ghost use Rattle.tables.specs.Spans.{IsSpan};
 

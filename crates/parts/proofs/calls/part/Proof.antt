@@ -1,7 +1,6 @@
 -- `parts::calls::part` meets its contract. Assumes nothing.
 use denote.Ref.{now}
 use mathlib.Core.Path.{sym, _∙_}
-use lib.ListN.{length}
 use Rattle.parts.proofs.Answered.{words-fit, out-kept, out-written}
 use borrow.Author.Needs.{needs}
 use Rattle.parts.proofs.calls.part.Statement.{statement}

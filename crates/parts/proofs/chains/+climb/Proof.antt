@@ -1,5 +1,5 @@
 -- `parts::chains::climb`, which calls itself, meets its contract. Assumes nothing.
-use Prim.Native.Nat.{ℕ, _<_, _+_, _-_}
+use Prim.Native.Nat.{ℕ, _<_}
 use borrow.Author.Needs.{needs}
 use native.Mathlib.Omega.{arith}
 use denote.Ref.{now}

@@ -1,5 +1,5 @@
 -- `parts::omitting::omits`, which calls itself, meets its contract. Assumes nothing.
-use Prim.Native.Nat.{ℕ, _<_, _+_, _-_}
+use Prim.Native.Nat.{ℕ, _<_, _-_}
 use borrow.Author.Needs.{needs}
 use native.Mathlib.Omega.{arith}
 use denote.Ref.{now}

@@ -1,6 +1,5 @@
 -- `tables::entries::quantifiers_around` meets its contract. Assumes nothing.
 use native.Mathlib.Omega.{arith}
-use denote.Ref.{now}
 use borrow.Author.Needs.{needs}
 use Rattle.tables.proofs.Nesting.{Climbs, climb-begin, climb-child, climb-other, climb-end}
 use Rattle.tables.proofs.entries.quantifiers_around.Statement.{statement}

@@ -1,8 +1,7 @@
 -- `tables::entries::times_named` meets its contract. Assumes nothing.
 use Prim.Native.Nat.{_-_}
-use mathlib.Core.Path.{sym, ap, _∙_}
+use mathlib.Core.Path.{ap, _∙_}
 use native.Mathlib.Omega.{arith}
-use denote.Ref.{now}
 use borrow.Author.Needs.{needs}
 use Rattle.base.proofs.Sums.{Summed, sum-begin, sum-more, sum-end}
 use Rattle.tables.specs.Words.{entryAt}

@@ -1,7 +1,6 @@
 -- `tables::joining::join` meets its contract. Assumes nothing.
 use denote.Ref.{now}
-use mathlib.Core.Path.{refl, sym, _∙_}
-use native.Mathlib.Omega.{arith}
+use mathlib.Core.Path.{sym}
 use lib.Seq.{length-take-le}
 use Rattle.tables.proofs.Joins.{over-used, kept, copy-fits, written}
 use borrow.Author.Needs.{needs}

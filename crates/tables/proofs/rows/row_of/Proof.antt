@@ -1,7 +1,6 @@
 -- `tables::rows::row_of` meets its contract. Assumes nothing.
 use mathlib.Core.Path.{sym, _∙_}
 use native.Mathlib.Omega.{arith}
-use borrow.Author.Needs.{needs}
 use denote.Ref.{now}
 use Rattle.tables.proofs.Words.{row-left, row-past}
 use Rattle.tables.proofs.rows.row_of.Statement.{statement}

@@ -1,6 +1,5 @@
 -- `tables::rules::entry_fault` meets its contract. Assumes nothing.
 use native.Mathlib.Omega.{arith}
-use denote.Ref.{now}
 use Rattle.tables.proofs.Faults.{fault-2, fault-3, fault-4, fault-5, fault-6, fault-7}
 use borrow.Author.Needs.{needs}
 use Rattle.tables.proofs.rules.entry_fault.Statement.{statement}

@@ -1,6 +1,5 @@
 -- `tables::check_table` meets its contract: one line of the refusal table after the other. Assumes nothing.
 use Prim.Native.Nat.{_-_}
-use mathlib.Core.Path.{refl}
 use native.Mathlib.Omega.{arith}
 use denote.Ref.{now}
 use borrow.Author.Tests.{not-true, not-false}

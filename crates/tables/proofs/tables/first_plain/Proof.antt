@@ -2,7 +2,6 @@
 use Prim.Native.Nat.{_-_}
 use mathlib.Core.Path.{sym, _∙_}
 use native.Mathlib.Omega.{arith}
-use borrow.Author.Needs.{needs}
 use Rattle.base.proofs.Search.{Passed, begin, hit, miss, none}
 use Rattle.tables.specs.Chains.{plainFault}
 use Rattle.tables.proofs.tables.first_plain.Statement.{statement}

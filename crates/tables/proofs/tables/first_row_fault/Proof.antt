@@ -1,7 +1,6 @@
 -- `tables::tables::first_row_fault` meets its contract. Assumes nothing.
 use mathlib.Core.Path.{refl}
 use denote.Ref.{now}
-use native.Mathlib.Omega.{arith}
 use Rattle.tables.proofs.Faults.{plain-first-is, link-first-is}
 use borrow.Author.Needs.{needs}
 use Rattle.tables.proofs.tables.first_row_fault.Statement.{statement}

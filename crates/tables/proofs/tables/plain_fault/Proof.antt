@@ -1,5 +1,4 @@
 -- `tables::tables::plain_fault` meets its contract. Assumes nothing.
-use native.Mathlib.Omega.{arith}
 use Rattle.tables.proofs.Faults.{plain-9, plain-first, plain-above}
 use borrow.Author.Needs.{needs}
 use Rattle.tables.proofs.tables.plain_fault.Statement.{statement}
