@@ -1,28 +1,29 @@
--- The part of an accepted table that one device's rows are handed back as: it is those rows' words, an accepted table, and its part is theirs. Assumes nothing.
-use Prim.Native.Nat.{ℕ, _+_, _-_, _*_, _≤_, _<_}
-use mathlib.Core.Path.{_≡_, sym, ap, ap₂, subst, _∙_}
-use mathlib.Core.Bool.{Bool, true, false, cond}
-use mathlib.Core.List.{List, [], _++_, append-nil}
+-- The part of an accepted table from the first row of a device to its end: it is that device's words, an accepted table, and its part is theirs. Assumes nothing.
+use Prim.Native.Nat.{ℕ, zero, suc, _+_, _-_, _*_, _≤_, _<_}
+use mathlib.Core.Path.{_≡_, refl, sym, ap, ap₂, subst, _∙_}
+use mathlib.Core.Bool.{Bool, true, false, cond, not}
+use mathlib.Core.List.{List, _++_, append-nil}
+use native.Mathlib.Numerals.{add-one}
 use native.Mathlib.Omega.{arith}
 use lib.ListN.{length, take, drop, take-append-drop, length-drop, replicate, length-replicate}
 use lib.Seq.{length-take-le}
 use lib.Dec.{eqb, ltb, leb}
-use borrow.Author.Tests.{eq-eqb, ne-eqb, eqb-true, ltb-true, ltb-false, le-leb}
+use borrow.Author.Tests.{eq-eqb, ne-eqb, eqb-true, eqb-false, not-true, ltb-true, ltb-false, le-leb, lt-leb}
 use Rattle.base.specs.Lists.{_∈_, select}
 use Rattle.base.proofs.Bools.{either}
 use Rattle.base.proofs.Lists.{select-append, select-all, select-none, select-out, length-select}
-use Rattle.base.proofs.Search.{first-le}
+use Rattle.base.proofs.Search.{Passed, begin, miss, first-le}
 use Rattle.tables.specs.Answers.{value, unless}
 use Rattle.tables.specs.Words.{rowAt, rowCount, rows}
 use Rattle.tables.specs.Rules.{acceptedRule}
 use Rattle.tables.specs.Tables.{acceptedTable}
-use Rattle.tables.specs.Devices.{fromDevice, hasDevice, deviceStart, deviceEnd}
+use Rattle.tables.specs.Devices.{fromDevice}
 use Rattle.tables.specs.declared.Row.{Row}
 use Rattle.tables.specs.declared.Answer.{Answer}
 use Rattle.tables.specs.declared.Answer.the-variants.{Done}
 use Rattle.tables.proofs.Answers.{unless-passed}
 use Rattle.tables.proofs.Words.{row-left, row-right}
-use Rattle.tables.proofs.Accepted.{whole-rows, few-rows, in-part, of-device, parent-device}
+use Rattle.tables.proofs.Accepted.{whole-rows, few-rows, rises, in-part, of-device, parent-device}
 use Rattle.tables.proofs.RowLists.{length-rows, row-out, rows-append}
 use Rattle.logic.specs.Formulas.{Formula, formula}
 use Rattle.logic.specs.Parts.{partBy, branchPart, fullPart, partOf, wordsOf, partAnswer}
@@ -69,47 +70,63 @@ module _ (A M B : List ℕ) (m n : ℕ) (d : ℕ) (la : length A ≡ 5 * m) (lm 
       )
       ∙ words-rows M (is-whole M n lm)
 
+-- ---- device e is behind device d
+module _ (d e : ℕ) where
+  pub is-behind : d < e → leb (d + 1) e ≡ true
+  is-behind h = le-leb (d + 1) e (omega arith)
+
+  pub not-behind : e ≤ d → leb (d + 1) e ≡ false
+  not-behind h = lt-leb (d + 1) e (omega arith)
+
+-- ---- the device of row i
+module _ (t : List ℕ) (ok : acceptedTable t ≡ true) (i : ℕ) (h : i < rowCount t) where
+  abbrev d : ℕ
+  d = rowAt t i .device
+
+  abbrev behind : ℕ → Bool
+  behind k = leb (d + 1) (rowAt t k .device)
+
+  -- the search for its end may begin at row i
+  pub passed : (k : ℕ) → k ≤ i → Passed behind (rowCount t) k
+  passed zero l = begin _ _
+  passed (suc k) l = subst (Passed behind (rowCount t)) (add-one k) (miss behind (rowCount t) k (passed k (omega arith)) (omega arith) (not-behind d (rowAt t k .device) (rises t ok k i (omega arith) h)))
+
+  module _ (end : ℕ) (is : end ≡ fromDevice t (d + 1)) where
+    pub ends : (i < end) × (5 * end ≤ length t)
+    ends = (omega (arith, of-device t ok d i h refl .1), omega (arith, first-le behind (rowCount t), whole-rows t ok))
+
+    -- where row i begins it, it is the first
+    starts : begins t i ≡ true → fromDevice t d ≡ i
+    starts b = either (ltb (fromDevice t d) i)
+        (λ s. let l : fromDevice t d < i = ltb-true (fromDevice t d) i s in
+        let e : rowAt t (fromDevice t d) .device ≡ d = in-part t ok d (fromDevice t d) (omega arith) (omega arith) (omega (arith, ends .0)) in
+        let up : d ≤ rowAt t (i - 1) .device = omega (arith, rises t ok (fromDevice t d) (i - 1) (omega arith) (omega arith)) in
+        let z : not (eqb d (rowAt t (i - 1) .device)) ≡ true = (rw (ne-eqb i 0 (omega arith)) at b) in
+        absurd (eqb-false d (rowAt t (i - 1) .device) (not-true _ z) (omega (arith, rises t ok (i - 1) i (omega arith) h))))
+        (λ s. omega (arith, ltb-false (fromDevice t d) i s, of-device t ok d i h refl .0))
+
+    -- from there to the end are its rows, and all of them
+    pub own-words : begins t i ≡ true → take (5 * end - 5 * i) (drop (5 * i) t) ≡ wordsOf (deviceRows (rows t) d)
+    own-words b =
+        let A = take (5 * i) t in
+        let M = take (5 * end - 5 * i) (drop (5 * i) t) in
+        let B = drop (5 * end - 5 * i) (drop (5 * i) t) in
+        let start : fromDevice t d ≡ i = starts b in
+        let later : i < end = ends .0 in
+        let within : 5 * end ≤ length t = ends .1 in
+        let size : length t ≡ 5 * rowCount t = whole-rows t ok in
+        let rest : length (drop (5 * i) t) ≡ length t - 5 * i = length-drop (5 * i) t in
+        let la : length A ≡ 5 * i = length-take-le (5 * i) t (omega arith) in
+        let lm : length M ≡ 5 * (end - i) = length-take-le (5 * end - 5 * i) (drop (5 * i) t) (omega arith) ∙ omega arith in
+        let lb : length B ≡ length t - 5 * end = length-drop (5 * end - 5 * i) (drop (5 * i) t) ∙ omega arith in
+        let e : A ++ (M ++ B) ≡ t = ap (_++_ A) (take-append-drop (5 * end - 5 * i) (drop (5 * i) t)) ∙ take-append-drop (5 * i) t in
+        sym (middle A M B i (end - i) d la lm
+        (λ k l q. absurd (omega (arith, of-device t ok d k (omega arith) (ap (λ (l : List ℕ). rowAt l k .device) (sym e) ∙ q) .0)))
+        (λ k l. ap (λ (l : List ℕ). rowAt l (i + k) .device) e ∙ in-part t ok d (i + k) (omega arith) (omega arith) (omega arith))
+        (λ k l q. absurd (omega (arith, of-device t ok d (i + (end - i) + k) (omega arith) (ap (λ (l : List ℕ). rowAt l (i + (end - i) + k) .device) (sym e) ∙ q) .1))))
+        ∙ ap (λ (l : List ℕ). wordsOf (deviceRows (rows l) d)) e
+
 module _ (t : List ℕ) (ok : acceptedTable t ≡ true) (d : ℕ) where
-  abbrev from : ℕ
-  from = fromDevice t d
-
-  abbrev to : ℕ
-  to = fromDevice t (d + 1)
-
-  within : to ≤ rowCount t
-  within = first-le (λ i. leb (d + 1) (rowAt t i .device)) (rowCount t)
-
-  -- the device is there
-  some-words : from < to → take (5 * to - 5 * from) (drop (5 * from) t) ≡ wordsOf (deviceRows (rows t) d)
-  some-words h =
-      let A = take (5 * from) t in
-      let M = take (5 * to - 5 * from) (drop (5 * from) t) in
-      let B = drop (5 * to - 5 * from) (drop (5 * from) t) in
-      let ends : to ≤ rowCount t = within in
-      let size : length t ≡ 5 * rowCount t = whole-rows t ok in
-      let rest : length (drop (5 * from) t) ≡ length t - 5 * from = length-drop (5 * from) t in
-      let la : length A ≡ 5 * from = length-take-le (5 * from) t (omega arith) in
-      let lm : length M ≡ 5 * (to - from) = length-take-le (5 * to - 5 * from) (drop (5 * from) t) (omega arith) ∙ omega arith in
-      let lb : length B ≡ length t - 5 * to = length-drop (5 * to - 5 * from) (drop (5 * from) t) ∙ omega arith in
-      let e : A ++ (M ++ B) ≡ t = ap (_++_ A) (take-append-drop (5 * to - 5 * from) (drop (5 * from) t)) ∙ take-append-drop (5 * from) t in
-      sym (middle A M B from (to - from) d la lm
-      (λ i l q. absurd (omega (arith, of-device t ok d i (omega arith) (ap (λ (l : List ℕ). rowAt l i .device) (sym e) ∙ q) .0)))
-      (λ i l. ap (λ (l : List ℕ). rowAt l (from + i) .device) e ∙ in-part t ok d (from + i) (omega arith) (omega arith) (omega arith))
-      (λ i l q. absurd (omega (arith, of-device t ok d (from + (to - from) + i) (omega arith) (ap (λ (l : List ℕ). rowAt l (from + (to - from) + i) .device) (sym e) ∙ q) .1))))
-      ∙ ap (λ (l : List ℕ). wordsOf (deviceRows (rows l) d)) e
-
-  -- it is not
-  no-words : to ≤ from → [] ≡ wordsOf (deviceRows (rows t) d)
-  no-words h = sym (ap wordsOf (select-none (λ r. eqb (r .device) d) (rows t) (λ r m.
-      let w = row-out t m in
-      ne-eqb (r .device) d (λ e. let q = of-device t ok d (w .0) (w .1) (ap (λ (x : Row). x .device) (sym (w .2)) ∙ e) in absurd (omega (arith, q .0, q .1))))))
-
-  pub own-words : take (deviceEnd t d - deviceStart t d) (drop (deviceStart t d) t) ≡ wordsOf (deviceRows (rows t) d)
-  unfolding deviceStart deviceEnd hasDevice
-  own-words = either (ltb from to)
-      (λ e. rw (ok, e) (some-words (ltb-true from to e)))
-      (λ e. rw (ok, e) (no-words (ltb-false from to e)))
-
   own-accepted : acceptedTable (wordsOf (deviceRows (rows t) d)) ≡ true
   own-accepted = kept-accepted t ok (λ r. eqb (r .device) d) (λ r p i j k c. eq-eqb (p .device) d (parent-device r p c ∙ eqb-true (r .device) d k))
 
@@ -131,11 +148,10 @@ module _ (rule t : List ℕ) (rule-ok : acceptedRule rule ≡ true) (ok : accept
   pub count-few : partCount (formula rule) mode t d ≤ 1024
   count-few = omega (arith, part-few (formula rule) mode (deviceRows (rows t) d), own-few t ok d)
 
-  pub part-count : (words : List ℕ) (room : ℕ) (a : Answer) → words ≡ take (deviceEnd t d - deviceStart t d) (drop (deviceStart t d) t) → 5120 ≤ room
+  pub part-count : (words : List ℕ) (room : ℕ) (a : Answer) → words ≡ wordsOf (deviceRows (rows t) d) → 5120 ≤ room
       → a ≡ partAnswer rule words mode room → (v : ℕ) → v ≡ value a → (v ≡ partCount (formula rule) mode t d) × (v ≤ 1024)
-  part-count words room a e h q v k =
+  part-count words room a is h q v k =
       let D = deviceRows (rows t) d in
-      let is : words ≡ wordsOf D = e ∙ own-words t ok d in
       let out : List ℕ = replicate room 0 in
       let long : room ≡ length out = sym (length-replicate {A = ℕ} room 0) in
       let fits : length (wordsOf (partOf (formula rule) mode D)) ≤ length out = omega (arith, length-words (partOf (formula rule) mode D), count-few) in

@@ -2,7 +2,6 @@
 use engine::marks;
 use parts::part_size;
 use tables::Answer;
-use tables::device_rows;
 ghost use mathlib.Core.Path.{_≡_};
 ghost use mathlib.Core.Bool.{true};
 ghost use Prim.Native.Nat.{_+_, _*_, _≤_, _<_};
@@ -10,9 +9,10 @@ ghost use lib.ListN.{length};
 ghost use lib.Dec.{eqb};
 ghost use Rattle.base.specs.Lists.{select};
 ghost use Rattle.tables.specs.Answers.{value};
-ghost use Rattle.tables.specs.Words.{rows, rowCount};
+ghost use Rattle.tables.specs.Words.{rows, rowAt, rowCount};
 ghost use Rattle.tables.specs.Rules.{one, acceptedRule};
 ghost use Rattle.tables.specs.Tables.{acceptedTable};
+ghost use Rattle.tables.specs.Devices.{fromDevice};
 ghost use Rattle.logic.specs.Formulas.{formula};
 ghost use Rattle.logic.specs.Verdict.{verdict};
 ghost use Rattle.checker.specs.Report.{begins, partCount, countAt, partsCount, markedCount, counts};
@@ -42,12 +42,29 @@ fn begins_device(pool: &[u32], i: usize) -> bool
     !(pool[5 * i + 0] == pool[5 * before + 0])
 }
 
-// The rows of one device's part: a buffer of 1,024 rows has room for any.
-fn part_count(rule: &[u32], pool: &[u32], device: u32, mode: u32) -> usize
-    requires { ⌜ (acceptedRule (now rule) ≡ true) × (acceptedTable (now pool) ≡ true) × (1 ≤ mode) × (mode ≤ 3) ⌝ }
-    ensures { λ r. ⌜ (r ≡ partCount (formula (now (rule .entry))) mode (now (pool .entry)) device) × (r ≤ 1024) ⌝ }
+// The first row of the device behind that of row i, or the number of rows: the pool's rows rise by device.
+fn device_end(pool: &[u32], i: usize) -> usize
+    requires { ⌜ (acceptedTable (now pool) ≡ true) × (5 * i + 5 ≤ length (now pool)) ⌝ }
+    ensures { λ r. ⌜ r ≡ fromDevice (now (pool .entry)) (rowAt (now (pool .entry)) i .device + 1) ⌝ }
 {
-    value_of(part_size(rule, device_rows(pool, device), mode, 5120))
+    let n = pool.len() / 5;
+    let mut end = i;
+    while end < n {
+        if pool[5 * i + 0] < pool[5 * end + 0] {
+            return end;
+        }
+        end += 1;
+    }
+    n
+}
+
+// The rows of the part of the device that begins at row i: a buffer of 1,024 rows has room for any.
+fn part_count(rule: &[u32], pool: &[u32], i: usize, mode: u32) -> usize
+    requires { ⌜ (acceptedRule (now rule) ≡ true) × (acceptedTable (now pool) ≡ true) × (1 ≤ mode) × (mode ≤ 3) × (5 * i + 5 ≤ length (now pool)) × (begins (now pool) i ≡ true) ⌝ }
+    ensures { λ r. ⌜ (r ≡ partCount (formula (now (rule .entry))) mode (now (pool .entry)) (rowAt (now (pool .entry)) i .device)) × (r ≤ 1024) ⌝ }
+{
+    let end = device_end(pool, i);
+    value_of(part_size(rule, &pool[5 * i..5 * end], mode, 5120))
 }
 
 // The same at the first row of each device, 0 at the others.
@@ -56,7 +73,7 @@ fn count_at(rule: &[u32], pool: &[u32], i: usize, mode: u32) -> usize
     ensures { λ r. ⌜ (r ≡ countAt (formula (now (rule .entry))) mode (now (pool .entry)) i) × (r ≤ 1024) ⌝ }
 {
     if begins_device(pool, i) {
-        return part_count(rule, pool, pool[5 * i + 0], mode);
+        return part_count(rule, pool, i, mode);
     }
     0
 }
