@@ -9,7 +9,7 @@ ghost use lib.ListN.{length};
 ghost use lib.Dec.{eqb};
 ghost use Rattle.base.specs.Lists.{select};
 ghost use Rattle.tables.specs.Answers.{value};
-ghost use Rattle.tables.specs.Words.{rows, rowAt, rowCount};
+ghost use Rattle.tables.specs.Words.{rows, rowAt};
 ghost use Rattle.tables.specs.Rules.{one, acceptedRule};
 ghost use Rattle.tables.specs.Tables.{acceptedTable};
 ghost use Rattle.tables.specs.Devices.{fromDevice};
