@@ -124,6 +124,9 @@ module _ (hash : ℕ → ℕ) (i k : ℕ) (k-is : k ≡ lastOf (λ m. eqb (hash 
           (λ e. let q : x ≡ h = sym (h-is ∙ eqb-true _ _ e) in rw (add-one i, e, q) (getD-set-same head h (suc i) 0 (omega (arith, s .long))))
           (λ e. rw (add-one i, e) (getD-set-other head h x (suc i) 0 (λ y. absurd (true≢false (sym (eq-eqb _ _ (sym h-is ∙ sym y)) ∙ e))) ∙ s .lasts x l))
 
+pub head-le : (hash : ℕ → ℕ) (head : List ℕ) (i : ℕ) → Heads hash head i → (h : ℕ) → h < 1024 → getD head h 0 ≤ i
+head-le hash head i s h l = omega (arith, s .lasts h l, last-le (λ m. eqb (hash m) h) i)
+
 -- ---- nothing yet
 getD-same : (z n j : ℕ) → getD (replicate n z) j z ≡ z
 getD-same z zero j = refl

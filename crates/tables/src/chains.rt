@@ -77,7 +77,7 @@ fn matches(number: u32, r: Row, b: Row) -> bool
 
 // Whether one of the first i rows of s and t matches r: k is one more than the last of them with the sought hash, and the chain
 // goes on from there.
-fn has_match(s: &[u32], t: &[u32], next: &[usize], i: usize, k: usize, number: u32, r: Row) -> bool
+fn has_match(s: &[u32], t: &[u32], next: &[u16], i: usize, k: usize, number: u32, r: Row) -> bool
     requires { ⌜ length (now s) % 5 ≡ 0 ⌝ }
     requires { ⌜ 5 * i ≤ length (now s) + length (now t) ⌝ }
     requires { ⌜ Linked (hashAt number (now s ++ now t)) (now next) i ⌝ }
@@ -94,14 +94,14 @@ fn has_match(s: &[u32], t: &[u32], next: &[usize], i: usize, k: usize, number: u
         if matches(number, r, row_of(s, t, j)) {
             return true;
         }
-        at = next[j];
+        at = next[j] as usize;
         left -= 1;
     }
     false
 }
 
 // Whether row r, behind the first i rows of s and t, has fault 11 or 12.
-fn is_fault(s: &[u32], t: &[u32], next: &[usize], i: usize, k: usize, number: u32, r: Row) -> bool
+fn is_fault(s: &[u32], t: &[u32], next: &[u16], i: usize, k: usize, number: u32, r: Row) -> bool
     requires { ⌜ length (now s) % 5 ≡ 0 ⌝ }
     requires { ⌜ 5 * i ≤ length (now s) + length (now t) ⌝ }
     requires { ⌜ Linked (hashAt number (now s ++ now t)) (now next) i ⌝ }
@@ -126,19 +126,20 @@ pub(crate) fn first_linked(s: &[u32], t: &[u32], n: usize, number: u32) -> usize
     requires { ⌜ n ≤ 1024 ⌝ }
     ensures { λ o. ⌜ o ≡ first (linkFault number (now (s .entry) ++ now (t .entry))) n ⌝ }
 {
-    let mut head = [0usize; 1024];
-    let mut next = [0usize; 1024];
+    // 16 bits each: clearing them is most of a small table's cost.
+    let mut head = [0u16; 1024];
+    let mut next = [0u16; 1024];
     let mut i = 0;
     while i < n {
         let r = row_of(s, t, i);
         let sought = sought_hash(number, r);
-        let k = head[sought];
+        let k = head[sought] as usize;
         if is_fault(s, t, &next, i, k, number, r) {
             return i;
         }
         let h = own_hash(number, r, sought);
         next[i] = head[h];
-        head[h] = i + 1;
+        head[h] = (i + 1) as u16;
         i += 1;
     }
     n

@@ -6,7 +6,7 @@ use borrow.Author.Needs.{needs}
 use denote.Ref.{now}
 use Rattle.base.proofs.Search.{none}
 use Rattle.tables.specs.Chains.{linkFault, hashAt}
-use Rattle.tables.proofs.Linked.{Looking, look-begin, look-hit, look-more, own-below, sought-below, sought-last, own-is, link-fault}
+use Rattle.tables.proofs.Linked.{Looking, look-begin, look-hit, look-more, own-below, sought-below, head-le, sought-last, own-is, link-fault}
 use Rattle.tables.proofs.chains.first_linked.Statement.{statement}
 use Rattle.tables.proofs.chains.first_linked.Tie as tie
 
@@ -19,6 +19,7 @@ first-linked-spec = tie.close (tie.spec
     (λ c κs. search needs)
     (λ c. let s = c .before .before .before .before .before .before in omega (arith, sought-below (s .args .number) (c .before .row-of .result), c .sought-hash .ensures))
     (λ c. let s = c .before .before .before .before .before .before in omega (arith, sought-below (s .args .number) (c .before .row-of .result), c .sought-hash .ensures, c .before .before .before .loop .inv .heads .long))
+    (λ c. let s = c .before .before .before .before .before .before in omega (arith, head-le _ _ _ (c .before .before .before .loop .inv .heads) (c .sought-hash .result) (omega (arith, sought-below (s .args .number) (c .before .row-of .result), c .sought-hash .ensures)), c .before .before .loop-test .taken, s .pre .1 .1))
     (λ c. search needs)
     (λ c κs. let s = c .before .before .before .before .before .before .before in (s .pre .0, (omega (arith, s .pre .1 .0, c .before .before .before .loop-test .taken), (c .before .before .before .before .loop .inv .linked, sought-last (s .args .number) (now (s .args .s) ++ now (s .args .t)) _ _ (c .before .before .row-of .ensures) _ (c .before .sought-hash .ensures) _ (c .before .before .before .before .loop .inv .heads)))))
     (λ c. let s = c .before .before .before .before .before .before .before .before .before in look-hit _ _ _ _ _ _ (c .before .before .before .before .before .before .loop .inv) (c .before .before .before .before .before .loop-test .taken) _ (link-fault (s .args .number) (now (s .args .s) ++ now (s .args .t)) _ _ (c .before .before .before .before .row-of .ensures) _ (c .before .is-fault .ensures)) (c .if1 .taken))
@@ -28,6 +29,7 @@ first-linked-spec = tie.close (tie.spec
     (λ c. let s = c .before .before .before .before .before .before .before .before .before .before in omega (arith, c .before .before .before .before .before .before .loop-test .taken, s .pre .1 .1))
     (λ c. let s = c .before .before .before .before .before .before .before .before .before .before in omega (arith, c .before .before .before .before .before .before .loop-test .taken, s .pre .1 .1, c .before .before .before .before .before .before .before .loop .inv .linked .long))
     (λ c. omega (arith, c .before .before .before .before .before .before .loop-test .taken))
+    (λ c. let s = c .before .before .before .before .before .before .before .before .before .before in omega (arith, c .before .before .before .before .before .before .loop-test .taken, s .pre .1 .1))
     (λ c. let s = c .before .before .before .before .before .before .before .before .before .before in omega (arith, own-below (s .args .number) (c .before .before .before .before .before .row-of .result), c .own-hash .ensures))
     (λ c. let s = c .before .before .before .before .before .before .before .before .before .before in omega (arith, own-below (s .args .number) (c .before .before .before .before .before .row-of .result), c .own-hash .ensures, c .before .before .before .before .before .before .before .loop .inv .heads .long))
     (λ c. omega (arith, c .before .before .before .before .before .before .loop-test .taken))

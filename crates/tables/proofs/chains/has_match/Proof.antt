@@ -23,6 +23,7 @@ has-match-spec = tie.close (tie.spec
     (λ c. let s = c .before .before .before .before .before .before .before .before .before in let u = now (s .args .s) ++ now (s .args .t) in seek-hit (hashAt (s .args .number) u) _ _ _ (λ j e. match-hash (s .args .number) (s .args .r) (rowAt u j) e) _ (c .before .before .before .before .before .loop .inv) (c .before .before .before .before .loop-test .taken) (ap (matchOf (s .args .number) (s .args .r)) (sym (c .before .before .row-of .ensures)) ∙ sym (c .before .matches .ensures) ∙ c .if2 .taken))
     (λ c. let s = c .before .before .before .before .before .before .before .before .before in omega (arith, c .before .before .before .before .before .loop .inv .within, s .pre .1 .1 .0 .fits))
     (λ c. let s = c .before .before .before .before .before .before .before .before .before .before in omega (arith, c .before .before .before .before .before .before .loop .inv .within, s .pre .1 .1 .0 .fits, s .pre .1 .1 .0 .long, c .before .before .before .before .before .loop-test .taken))
+    (λ c. let s = c .before .before .before .before .before .before .before .before .before .before in let u = now (s .args .s) ++ now (s .args .t) in omega (arith, seek-falls (hashAt (s .args .number) u) _ _ _ (λ j e. match-hash (s .args .number) (s .args .r) (rowAt u j) e) (now (s .args .next)) (s .pre .1 .1 .0) _ (c .before .before .before .before .before .before .loop .inv) (c .before .before .before .before .before .loop-test .taken), c .before .before .before .before .before .before .loop .inv .within, s .pre .1 .1 .0 .fits))
     (λ c. omega (arith, c .before .before .before .before .if1 .left))
     (λ c. let s = c .before .before .before .before .before .before .before .before .before .before in let u = now (s .args .s) ++ now (s .args .t) in seek-falls (hashAt (s .args .number) u) _ _ _ (λ j e. match-hash (s .args .number) (s .args .r) (rowAt u j) e) (now (s .args .next)) (s .pre .1 .1 .0) _ (c .before .before .before .before .before .before .loop .inv) (c .before .before .before .before .before .loop-test .taken))
     (λ c. let s = c .before .before .before .before .before .before .before .before .before .before in let u = now (s .args .s) ++ now (s .args .t) in seek-next (hashAt (s .args .number) u) _ _ _ (λ j e. match-hash (s .args .number) (s .args .r) (rowAt u j) e) (now (s .args .next)) (s .pre .1 .1 .0) _ (c .before .before .before .before .before .before .loop .inv) (c .before .before .before .before .before .loop-test .taken) (ap (matchOf (s .args .number) (s .args .r)) (sym (c .before .before .before .row-of .ensures)) ∙ sym (c .before .before .matches .ensures) ∙ c .before .if2 .left))
