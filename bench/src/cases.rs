@@ -4,7 +4,7 @@ use gabzeril_tests::checker::{POOL, RULE};
 use gabzeril_tests::generate::{files_cost, reading_cost, verdict_cost};
 
 use crate::calls::Call;
-use crate::inputs::{deep, devices, gathered, one_device, roots, roots_in_one_chain, A, B, C};
+use crate::inputs::{children_in_one_chain, deep, devices, gathered, names_in_one_chain, one_device, roots, roots_in_one_chain, A, B, C};
 
 pub struct Case {
     pub call: Call,
@@ -76,6 +76,10 @@ pub fn all() -> Vec<Case> {
         cases.push(case(Call::CheckTable { table }, "roots, values multiples of 1,024", rows));
         let table = roots_in_one_chain(rows);
         cases.push(case(Call::CheckTable { table }, "roots, all in one chain", rows));
+        let table = names_in_one_chain(rows);
+        cases.push(case(Call::CheckTable { table }, "roots, all in one chain, few values", rows));
+        let table = children_in_one_chain(rows);
+        cases.push(case(Call::CheckTable { table }, "equal children of many roots, in one chain", rows));
     }
     for rows in [64, 256, 1_020, 1_024] {
         on_devices(&mut cases, rows);

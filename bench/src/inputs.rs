@@ -1,6 +1,6 @@
 //! Rules and pools of the benchmark.
 
-use gabzeril_tests::checker::MOST_VALUE;
+use gabzeril_tests::checker::{MOST_NAME, MOST_VALUE};
 
 /// Rule A of the contract: each device is client or server.
 pub const A: [u32; 24] = [5, 1, 0, 1, 3, 2, 4, 0, 6, 3, 1, 2, 7, 1, 1, 1, 6, 5, 1, 2, 7, 1, 1, 2];
@@ -79,17 +79,44 @@ pub fn roots(rows: u32, step: u32) -> Vec<u32> {
 
 /// Roots of one device whose hashes in check 12 are all equal: the library links them in one chain.
 pub fn roots_in_one_chain(rows: u32) -> Vec<u32> {
-    let all = (0..=MOST_VALUE).filter(|&value| root_hash(value) == root_hash(0));
+    let all = (0..=MOST_VALUE).filter(|&value| hash(0, 0, 1, value) == hash(0, 0, 1, 0));
     roots_of(all.take(rows as usize))
+}
+
+/// The same with as few values as there can be: the names differ.
+pub fn names_in_one_chain(rows: u32) -> Vec<u32> {
+    let pairs = (0..).flat_map(|value| (1..=MOST_NAME).map(move |name| (name, value)));
+    let all = pairs.filter(|&(name, value)| hash(0, 0, name, value) == hash(0, 0, 1, 0));
+    (1..).zip(all.take(rows as usize)).flat_map(|(at, (name, value))| [1, at, 0, name, value]).collect()
+}
+
+/// Roots with a child each; the children have one name and value, and equal hashes in check 12.
+pub fn children_in_one_chain(rows: u32) -> Vec<u32> {
+    let mut table = vec![];
+    for device in 1.. {
+        let mut free = 1;
+        for at in (1..MOST_NAME).filter(|&at| hash(device, at, 2, 7) == 0) {
+            if at < free {
+                continue;
+            }
+            if table.len() == 5 * rows as usize {
+                return table;
+            }
+            table.extend([device, at, 0, 1, table.len() as u32, device, at + 1, at, 2, 7]);
+            free = at + 2;
+        }
+    }
+    table
 }
 
 fn roots_of(values: impl Iterator<Item = u32>) -> Vec<u32> {
     (1..).zip(values).flat_map(|(at, value)| [1, at, 0, 1, value]).collect()
 }
 
-/// `hash_of` in crates/tables/src/chains.rt, for a root of name 1.
-fn root_hash(value: u32) -> u64 {
-    (669_926_575 + u64::from(value) * 700_227_275) % (1 << 32) / (1 << 22)
+/// `hash_of` in crates/tables/src/chains.rt.
+fn hash(device: u32, place: u32, name: u32, value: u32) -> u64 {
+    let [device, place, name, value] = [device, place, name, value].map(u64::from);
+    (device * 947_282_241 + place * 1_870_821_409 + name * 669_926_575 + value * 700_227_275) % (1 << 32) / (1 << 22)
 }
 
 /// Eight quantifiers over roots around one another; each decides at the last row of `roots(rows, 1)`.
@@ -122,6 +149,7 @@ mod tests {
                 roots(rows, 1),
                 roots(rows, 1_024),
                 roots_in_one_chain(rows),
+                names_in_one_chain(rows),
             ];
             for table in tables {
                 assert_eq!(check_table(&table), Answer::Done(rows as usize));
