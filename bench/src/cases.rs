@@ -4,7 +4,10 @@ use gabzeril_tests::checker::{POOL, RULE};
 use gabzeril_tests::generate::{files_cost, reading_cost, verdict_cost};
 
 use crate::calls::Call;
-use crate::inputs::{children_in_one_chain, deep, devices, gathered, names_in_one_chain, one_device, roots, roots_in_one_chain, A, B, C};
+use crate::inputs::{
+    children_in_one_chain, deep, devices, gathered, names_in_one_chain, one_device, roots,
+    roots_in_one_chain, A, B, C,
+};
 
 pub struct Case {
     pub call: Call,

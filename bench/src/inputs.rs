@@ -116,7 +116,8 @@ fn roots_of(values: impl Iterator<Item = u32>) -> Vec<u32> {
 /// `hash_of` in crates/tables/src/chains.rt.
 fn hash(device: u32, place: u32, name: u32, value: u32) -> u64 {
     let [device, place, name, value] = [device, place, name, value].map(u64::from);
-    (device * 947_282_241 + place * 1_870_821_409 + name * 669_926_575 + value * 700_227_275) % (1 << 32) / (1 << 22)
+    (device * 947_282_241 + place * 1_870_821_409 + name * 669_926_575 + value * 700_227_275) % (1 << 32)
+        / (1 << 22)
 }
 
 /// Eight quantifiers over roots around one another; each decides at the last row of `roots(rows, 1)`.

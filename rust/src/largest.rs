@@ -23,7 +23,11 @@ fn nots_first(quantifier: u32) -> Vec<u32> {
     let (entries, nested) = (MOST_ENTRIES as u32, MOST_NESTED as u32);
     let mut rule = vec![];
     for place in 0..entries - 1 {
-        let words = if place + 1 + nested < entries { [1, place + 1, 0, 0] } else { [quantifier, place + 1, 0, LAST] };
+        let words = if place + 1 + nested < entries {
+            [1, place + 1, 0, 0]
+        } else {
+            [quantifier, place + 1, 0, LAST]
+        };
         rule.extend(words);
     }
     rule.extend([7, nested - 1, 1, LAST_VALUE]);
@@ -34,7 +38,8 @@ fn nots_first(quantifier: u32) -> Vec<u32> {
 /// that do not decide: every row and both sides are in the reason.
 fn over_connectives(quantifier: u32, connective: u32, comparison: u32) -> Vec<u32> {
     let innermost = MOST_NESTED as u32 - 1;
-    let mut rule: Vec<u32> = (0..MOST_NESTED as u32).flat_map(|place| [quantifier, place + 1, 0, LAST]).collect();
+    let mut rule: Vec<u32> =
+        (0..MOST_NESTED as u32).flat_map(|place| [quantifier, place + 1, 0, LAST]).collect();
     while rule.len() / 4 + 2 < MOST_ENTRIES {
         let place = rule.len() as u32 / 4;
         rule.extend([connective, place + 2, place + 1, 0]);

@@ -41,7 +41,10 @@ fn every_name_is_there() {
     for token in split(&claims).0 {
         for name in token.split(|c: char| !is_word(c)).filter(|n| n.len() > 1) {
             let known = names.contains(name) || root().join("crates").join(name).is_dir();
-            assert!(known || token.contains('/') || token.ends_with('*') || token.starts_with('_'), "CLAIMS names `{token}`, and {name} is nowhere");
+            assert!(
+                known || token.contains('/') || token.ends_with('*') || token.starts_with('_'),
+                "CLAIMS names `{token}`, and {name} is nowhere"
+            );
             checked += 1;
         }
     }
@@ -61,7 +64,8 @@ fn every_file_is_there() {
             if !base.is_dir() || name.is_empty() {
                 continue;
             }
-            let places = [("must-fail", "edit"), ("must-fail/more", "edit"), ("specs", "antt"), ("proofs", "antt")];
+            let places =
+                [("must-fail", "edit"), ("must-fail/more", "edit"), ("specs", "antt"), ("proofs", "antt")];
             let there = places.iter().any(|(f, e)| base.join(f).join(format!("{name}.{e}")).is_file());
             assert!(there, "CLAIMS names {word}, which is no edit and no file of definitions or theorems");
             checked += 1;

@@ -71,7 +71,8 @@ fn files() {
 #[test]
 fn verdict_and_marks() {
     for rule in largest::rules() {
-        for table in largest::tables().into_iter().chain([largest::table_of_two(), largest::table_of_ends()]) {
+        for table in largest::tables().into_iter().chain([largest::table_of_two(), largest::table_of_ends()])
+        {
             let verdict = on_a_small_stack(|| ffi::verdict(&rule, &table));
             assert_eq!(verdict, checker::verdict(&rule, &table), "{rule:?}");
             let mut expected = vec![7; table.len() / checker::ROW_WORDS];
@@ -103,7 +104,8 @@ fn parts() {
 #[test]
 fn entry() {
     for rule in largest::rules() {
-        for table in largest::tables().into_iter().chain([largest::table_of_ends(), largest::longest_pool()]) {
+        for table in largest::tables().into_iter().chain([largest::table_of_ends(), largest::longest_pool()])
+        {
             let (rule, pool) = (checker::RULE.text_of(&rule), checker::POOL.text_of(&table));
             let verdict = on_a_small_stack(|| ffi::check_files(&rule, &pool));
             assert_eq!(verdict, checker::check_files(&rule, &pool));
