@@ -1,11 +1,10 @@
 //! The cases, in the order in which they are printed.
 
 use gabzeril_tests::checker::{POOL, RULE};
-use gabzeril_tests::generate::{files_cost, reading_cost, verdict_cost};
 
 use crate::calls::Call;
 use crate::inputs::{
-    children_in_one_chain, deep, devices, gathered, names_in_one_chain, one_device, roots,
+    children_in_one_chain, deep, devices, gathered, late, names_in_one_chain, one_device, roots,
     roots_in_one_chain, A, B, C,
 };
 
@@ -15,34 +14,10 @@ pub struct Case {
     pub rows: u32,
 }
 
-/// Beyond this many rows walked the Rust checker is not run.
-const MOST_STEPS: u64 = 4_000_000_000;
-
 impl Case {
     /// What names the case in files of counts.
     pub fn label(&self) -> String {
         label(&self.call.name(), &self.on, self.rows)
-    }
-
-    /// Whether the Rust checker answers within some seconds. In mode 3 it reads every body without stopping
-    /// early, and takes far too long where quantifiers over roots stand around one another.
-    pub fn checker_can_run(&self) -> bool {
-        let steps = match &self.call {
-            Call::Verdict { rule, pool } | Call::Marks { rule, pool } => verdict_cost_stopping(rule, pool),
-            Call::Part { rule, table, mode: 3 } => reading_cost(rule, table),
-            Call::CheckFiles { rule_file, pool_file } => files_cost(rule_file, pool_file),
-            _ => 0,
-        };
-        steps <= MOST_STEPS
-    }
-}
-
-/// The deep rule stops at each row but the last, which the estimate does not know.
-fn verdict_cost_stopping(rule: &[u32], pool: &[u32]) -> u64 {
-    if rule.len() == deep(1).len() {
-        0
-    } else {
-        verdict_cost(rule, pool)
     }
 }
 
@@ -67,6 +42,10 @@ pub const ONE_DEVICE: &str = "one device";
 pub const A_TRUE: &str = "rule A true, devices of three rows";
 pub const B_TRUE: &str = "rule B true, devices of three rows";
 pub const C_TRUE: &str = "rule C true, one device";
+/// Each variable has its own comparison: a reading goes deeper with the last row only.
+const DEEP: &str = "deep rule, roots";
+/// Every comparison uses the innermost variable: a reading goes down to it with any row.
+const LATE: &str = "late rule, roots";
 
 pub fn all() -> Vec<Case> {
     let mut cases = vec![];
@@ -144,12 +123,14 @@ fn on_one_device(cases: &mut Vec<Case>, rows: u32) {
     }
 }
 
-/// The deep rule on one device.
+/// Eight quantifiers over roots around one another, on one device.
 fn on_roots(cases: &mut Vec<Case>, rows: u32) {
-    let (rule, table, on) = (deep(rows), roots(rows, 1), "deep rule, roots");
-    cases.push(case(verdict(&rule, table.clone()), on, rows));
-    cases.push(case(marks(&rule, table.clone()), on, rows));
-    parts(cases, &rule, &table, on);
+    let table = roots(rows, 1);
+    for (rule, on) in [(deep(rows), DEEP), (late(rows), LATE)] {
+        cases.push(case(verdict(&rule, table.clone()), on, rows));
+        cases.push(case(marks(&rule, table.clone()), on, rows));
+        parts(cases, &rule, &table, on);
+    }
 }
 
 fn parts(cases: &mut Vec<Case>, rule: &[u32], table: &[u32], on: &str) {

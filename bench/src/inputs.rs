@@ -134,6 +134,29 @@ pub fn deep(rows: u32) -> Vec<u32> {
     rule
 }
 
+/// Eight of both kinds likewise; none decides before the innermost variable is bound, to the last row.
+pub fn late(rows: u32) -> Vec<u32> {
+    let (innermost, last) = (7, rows - 1);
+    let mut rule = vec![];
+    // Every x0: not some x1: not every x2, and so on: what decides the innermost decides them all.
+    for variable in 0..innermost {
+        let entry = 2 * variable;
+        rule.extend([5 + variable % 2, entry + 1, 0, 1]);
+        rule.extend([1, entry + 2, 0, 0]);
+    }
+    rule.extend([6, 15, 0, 1]);
+    rule.extend([2, 16, 17, 0]);
+    rule.extend([7, innermost, 1, last]);
+    // And some other variable is below it.
+    for variable in 0..6 {
+        let entry = 17 + 2 * variable;
+        rule.extend([3, entry + 1, entry + 2, 0]);
+        rule.extend([8, variable, 0, innermost]);
+    }
+    rule.extend([8, 6, 0, innermost]);
+    rule
+}
+
 #[cfg(test)]
 mod tests {
     use super::*;
@@ -156,6 +179,7 @@ mod tests {
                 assert_eq!(check_table(&table), Answer::Done(rows as usize));
             }
             assert_eq!(check_rule(&deep(rows)), Answer::Done(23));
+            assert_eq!(check_rule(&late(rows)), Answer::Done(30));
         }
         for rule in [&A[..], &B, &C] {
             assert_eq!(check_rule(rule), Answer::Done(rule.len() / 4));
@@ -169,6 +193,7 @@ mod tests {
         assert_eq!(verdict(&B, &devices(64, 2)), Answer::Done(0));
         assert_eq!(verdict(&C, &one_device(64)), Answer::Done(1));
         assert_eq!(verdict(&deep(64), &roots(64, 1)), Answer::Done(1));
+        assert_eq!(verdict(&late(64), &roots(64, 1)), Answer::Done(0));
     }
 
     #[test]

@@ -4,6 +4,7 @@
 use gabzeril_tests::checker;
 use gabzeril_tests::compare::{calls, run, Case};
 use gabzeril_tests::generate::*;
+use gabzeril_tests::random::Random;
 
 #[test]
 fn accepted_rules_and_tables() {
@@ -48,6 +49,55 @@ fn devices_of_many_siblings() {
     tally.saw_both_values(2_000);
 }
 
+/// Each is read within the others' bodies, inside every connective; one request in ten is damaged.
+#[test]
+fn quantifiers_over_roots() {
+    let cost = 100_000;
+    let tally = run("quantifiers_over_roots", 70_000, 100_000, |case| {
+        let (rule, device) = rule_and_roots(&mut case.random, cost);
+        for mode in [2, 3] {
+            let mut request = (rule.clone(), device.clone(), mode);
+            if case.random.chance(10) {
+                request = damaged_request(&mut case.random, request);
+            }
+            let (rule, device, mode) = request;
+            // A damage may leave all accepted, but far too long to read.
+            if reading_cost(&rule, &device) > 10 * cost {
+                continue;
+            }
+            let length = match case.random.chance(20) {
+                true => one_length_around(&mut case.random, sent(&rule, &device, mode)),
+                false => device.len(),
+            };
+            let output = case.random.words(length);
+            calls::part(case, &rule, &device, mode, &output);
+        }
+    });
+    tally.saw_each(1..=14, 100);
+    tally.saw_each([0], 100_000);
+    tally.saw_each([17], 5_000);
+    tally.saw_both_values(1_000);
+}
+
+type Request = (Vec<u32>, Vec<u32>, u32);
+
+/// A fault in the rule, the table or the mode, or a row of another device.
+fn damaged_request(random: &mut Random, (rule, device, mode): Request) -> Request {
+    match random.below(4) {
+        0 => (damaged_rule(random, &rule), device, mode),
+        1 => (rule, damaged_table(random, &device), mode),
+        2 => (rule, device, unknown_mode(random)),
+        _ => {
+            let other = [device[0] + 1, 1, 0, 1, random.word() >> 1];
+            (rule, [&device[..], &other].concat(), mode)
+        }
+    }
+}
+
+fn unknown_mode(random: &mut Random) -> u32 {
+    random.pick(&[0, 4, 5, 65_537, 1 << 31, u32::MAX])
+}
+
 #[test]
 fn refused_rules_and_tables() {
     let tally = run("refused_rules_and_tables", 25_000, 20_000, |case| {
@@ -63,7 +113,7 @@ fn refused_rules_and_tables() {
         }
         let mode = match random.chance(70) {
             true => random.between(1, 3) as u32,
-            false => random.pick(&[0, 4, 5, 65_537, 1 << 31, u32::MAX]),
+            false => unknown_mode(random),
         };
         // A damage may leave both accepted, but far too long to read.
         if reading_cost(&rule, &table) > 10 * limit.cost {

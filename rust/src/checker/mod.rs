@@ -3,6 +3,8 @@
 //! and leaves the same content in its buffers.
 
 mod device;
+#[cfg(test)]
+mod elsewhere;
 mod entry;
 mod files;
 mod files_entry;

@@ -2,7 +2,7 @@
 
 use super::files::put;
 use super::reach::Reach;
-use super::spare::{both_tests_met, spare_rows};
+use super::spare::spare_rows;
 use super::table::{Row, ROW_WORDS};
 use super::tests_of_line::{test, test_each};
 use super::verdict::accepted;
@@ -18,7 +18,6 @@ pub fn part_of(rule: &[u32], table: &[u32], mode: u32) -> Result<Vec<u32>, Refus
     let (entries, rows) = accepted(rule, table)?;
     test(13, !(1..=3).contains(&mode))?;
     test_each(14, rows.len(), |place| rows[place].device != rows[0].device)?;
-    test(15, mode == 3 && both_tests_met(&entries, &rows))?;
     let sent = match mode {
         1 => vec![true; rows.len()],
         2 => branch(&entries, &rows),
@@ -40,7 +39,7 @@ fn full(entries: &[Entry], rows: &[Row]) -> Vec<bool> {
 }
 
 /// The words of the rows that are sent, in order.
-pub fn selection(table: &[u32], sent: &[bool]) -> Vec<u32> {
+fn selection(table: &[u32], sent: &[bool]) -> Vec<u32> {
     let rows = table.chunks(ROW_WORDS).zip(sent);
     rows.filter(|(_, &sent)| sent).flat_map(|(row, _)| row.iter().copied()).collect()
 }

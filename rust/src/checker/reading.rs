@@ -43,6 +43,7 @@ impl Reading {
 pub type Bindings = Vec<Option<usize>>;
 
 /// An accepted rule and the rows of one device.
+#[derive(Debug)]
 pub struct Switch<'a> {
     pub entries: &'a [Entry],
     pub rows: &'a [Row],
@@ -102,15 +103,15 @@ impl Switch<'_> {
         }
     }
 
-    /// The first test of a quantifier over roots.
-    pub fn own_root_decides(&self, quantifier: Quantifier, bound: &mut Bindings) -> bool {
+    /// Whether the body of some own root decides.
+    fn own_root_decides(&self, quantifier: Quantifier, bound: &mut Bindings) -> bool {
         let decided = Reading::of(!quantifier.every);
         range(self.rows, quantifier.name, None)
             .any(|row| self.read_body(quantifier, Some(row), bound) == decided)
     }
 
-    /// The second test of a quantifier over roots, and the only one under an elsewhere variable.
-    pub fn elsewhere_settles(&self, quantifier: Quantifier, bound: &mut Bindings) -> bool {
+    /// Whether the body with the variable elsewhere settles it.
+    fn elsewhere_settles(&self, quantifier: Quantifier, bound: &mut Bindings) -> bool {
         self.read_body(quantifier, None, bound) == Reading::of(quantifier.every)
     }
 

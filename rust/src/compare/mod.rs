@@ -13,6 +13,9 @@ use crate::random::Random;
 
 const DEFAULT_SEED: u64 = 20_260_101;
 
+/// A refusal's number that is retired and stays unused.
+const RETIRED: u32 = 15;
+
 /// One case, made from its own seed: run with that seed in `GABZERIL_SEED`, it is the first case.
 pub struct Case {
     pub random: Random,
@@ -50,10 +53,12 @@ impl Case {
         Case { random, seed, tally: Tally::default() }
     }
 
-    /// Counts one comparison; fails if its outcome was not the expected one.
+    /// Counts one comparison; fails if its outcome was not the expected one. The retired number may not be
+    /// expected, so a call that answers it fails in any case.
     pub fn compared(&mut self, same: bool, expected: Answer, describe: impl FnOnce() -> String) {
         self.tally.count(expected);
-        assert!(same, "GABZERIL_SEED={}: {}", self.seed, describe());
+        let retired = expected.number() == RETIRED;
+        assert!(same && !retired, "GABZERIL_SEED={}: {}", self.seed, describe());
     }
 }
 
@@ -63,5 +68,17 @@ impl Drop for Case {
         if std::thread::panicking() {
             eprintln!("failed in the case of GABZERIL_SEED={}", self.seed);
         }
+    }
+}
+
+#[cfg(test)]
+mod tests {
+    use super::*;
+
+    #[test]
+    #[should_panic(expected = "GABZERIL_SEED=7: answered by both sides")]
+    fn the_retired_number_fails() {
+        let answer = Answer::refused(RETIRED, 0);
+        Case::new("retired", 7).compared(true, answer, || "answered by both sides".into());
     }
 }

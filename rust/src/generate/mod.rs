@@ -20,5 +20,5 @@ pub use damaged_table::{any_table, damage_table, damaged_table, TABLE_FAULTS};
 pub use lengths::{lengths_around, one_length_around, some_lengths_around};
 pub use pools::{pool, pool_of, PoolShape};
 pub use rules::{rule, rule_of, RuleShape};
-pub use together::{rule_and_devices, rule_and_pool, rule_and_siblings, Together};
+pub use together::{rule_and_devices, rule_and_pool, rule_and_roots, rule_and_siblings, Together};
 pub use vocabulary::{word_of_any_class, Vocabulary, NOT_IN_POOL};

@@ -1,7 +1,7 @@
 //! What the generators promise.
 
 use super::*;
-use crate::checker::{check_rule, check_table};
+use crate::checker::{accepted_rule, accepted_table, check_rule, check_table, Entry};
 use crate::random::Random;
 
 #[test]
@@ -13,6 +13,37 @@ fn rules_and_pools_are_accepted() {
         assert_eq!(check_rule(&rule).number(), 0, "seed {seed}: {rule:?}");
         assert_eq!(check_table(&pool).number(), 0, "seed {seed}: {pool:?}");
     }
+}
+
+/// In most rules quantifiers over roots stand around one another, in many also beside one another.
+#[test]
+fn quantifiers_over_roots_meet() {
+    let (mut around, mut beside) = (0, 0);
+    for seed in 0..3_000 {
+        let (rule, table) = rule_and_roots(&mut Random::new(seed), 20_000);
+        let entries = accepted_rule(&rule).expect("an accepted rule");
+        let rows = accepted_table(&table).expect("an accepted table");
+        assert!(rows.iter().all(|row| row.device == rows[0].device), "seed {seed}: {table:?}");
+        assert!(
+            (2..=12).contains(&rows.iter().filter(|row| row.is_root()).count()),
+            "seed {seed}: {table:?}"
+        );
+        let nested = nested_over_roots(&entries, 0);
+        around += (nested > 1) as u32;
+        beside += (entries.iter().filter(|entry| is_over_roots(entry)).count() > nested) as u32;
+    }
+    assert!(around >= 1_500 && beside >= 1_000, "{around} around, {beside} beside");
+}
+
+fn is_over_roots(entry: &Entry) -> bool {
+    entry.quantifier().is_some_and(|quantifier| quantifier.under.is_none())
+}
+
+/// The most quantifiers over roots within the entry that stand around one another.
+fn nested_over_roots(entries: &[Entry], entry: usize) -> usize {
+    let children = entries[entry].children().into_iter();
+    let inside = children.map(|child| nested_over_roots(entries, child)).max().unwrap_or(0);
+    inside + is_over_roots(&entries[entry]) as usize
 }
 
 /// A fault put in alone is mostly the one that is found; where there is no place for it, none is.

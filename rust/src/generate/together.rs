@@ -2,9 +2,9 @@
 
 use super::cost::{reading_cost, verdict_cost};
 use super::pools::{pool_of, PoolShape};
-use super::rules::{rule_of, RuleShape};
+use super::rules::{rule_of, RuleShape, Sides};
 use super::vocabulary::Vocabulary;
-use crate::checker::devices_of;
+use crate::checker::{devices_of, ROW_WORDS};
 use crate::random::Random;
 
 #[derive(Clone, Copy, Debug)]
@@ -50,6 +50,40 @@ pub fn rule_and_siblings(random: &mut Random, limit: Together) -> (Vec<u32>, Vec
         let rule = rule_of(random, &vocabulary, shape);
         if reading_cost(&rule, &table) <= limit.cost {
             return (rule, table);
+        }
+    }
+}
+
+/// An accepted rule in which quantifiers, most of them over roots, stand around and beside one another, and
+/// one device with roots of their names: each is read with own rows and elsewhere within others' bodies.
+pub fn rule_and_roots(random: &mut Random, cost: u64) -> (Vec<u32>, Vec<u32>) {
+    loop {
+        let names = random.between(2, 3) as u32;
+        let vocabulary = Vocabulary { names: (1..=names).collect(), ..Vocabulary::new(random) };
+        let shape = RuleShape {
+            entries: random.between(5, 24),
+            nested: random.between(2, 6),
+            weights: random.pick(&[[1, 6, 4], [1, 8, 2], [2, 4, 4]]),
+            sides: Sides::Any,
+            roots: random.pick(&[80, 100]),
+        };
+        let rule = rule_of(random, &vocabulary, shape);
+        let table = device_of_roots(random, &vocabulary);
+        if reading_cost(&rule, &table) <= cost {
+            return (rule, table);
+        }
+    }
+}
+
+/// One device with 2 to 12 roots, not all of one name, and a few rows under them.
+fn device_of_roots(random: &mut Random, vocabulary: &Vocabulary) -> Vec<u32> {
+    loop {
+        let (rows, roots) = (random.between(2, 16), random.pick(&[70, 85, 100]));
+        let shape = PoolShape { devices: 1, roots, ..PoolShape::with_rows(random, rows) };
+        let table = pool_of(random, vocabulary, shape);
+        let names: Vec<u32> = table.chunks(ROW_WORDS).filter(|row| row[2] == 0).map(|row| row[3]).collect();
+        if (2..=12).contains(&names.len()) && names.iter().any(|&name| name != names[0]) {
+            return table;
         }
     }
 }
