@@ -21,7 +21,7 @@ extern "C" {
 
 /* What a call answers. */
 typedef struct gabzeril_answer {
-    uint32_t number; /* 0: accepted; else the number of the refusal, 1 to 19 */
+    uint32_t number; /* 0: accepted; else the number of the refusal: 1 to 14 or 16 to 19 */
     size_t place;    /* where the fault is: entries and rows from 0, lines from 1; 0 for the rest */
     size_t value;    /* what an accepted call answers; 0 in a refusal */
 } gabzeril_answer;
@@ -72,7 +72,7 @@ gabzeril_answer gabzeril_marks(const uint32_t *rule, size_t rule_length,
                                uint8_t *marks, size_t marks_length);
 
 /* The rows that one device sends: all (mode 1), its branch part (2), its full part (3). Refusals 1 to 12,
- * 13, 14, 15, 17. Value: the number of rows sent. */
+ * 13, 14, 17. Value: the number of rows sent. */
 gabzeril_answer gabzeril_part(const uint32_t *rule, size_t rule_length,
                               const uint32_t *table, size_t table_length, uint32_t mode,
                               uint32_t *part, size_t part_length);

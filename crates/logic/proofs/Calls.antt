@@ -7,7 +7,7 @@ use mathlib.Core.Bool.{Bool, true, false, not, cond, _&&_, false≢true}
 use mathlib.Core.List.{List, _++_, map}
 use lib.ListN.{length, getD, take, drop, length-map, List·getD-append}
 use lib.Seq.{take-at}
-use lib.Dec.{eqb, leb}
+use lib.Dec.{leb}
 use borrow.Author.Tests.{le-leb, eq-eqb}
 use Rattle.base.specs.Lists.{_∈_}
 use Rattle.base.proofs.Bools.{and-both}
@@ -24,11 +24,10 @@ use Rattle.tables.proofs.RowLists.{length-rows, row-in}
 use Rattle.logic.specs.Formulas.{formula}
 use Rattle.logic.specs.Verdict.{verdict, verdictAnswer}
 use Rattle.logic.specs.Marks.{marked, markBytes, marksAnswer, marksOut}
-use Rattle.logic.specs.Parts.{contradiction, partOf, wordsOf, otherDevice, partAnswer, partOut}
+use Rattle.logic.specs.Parts.{partOf, wordsOf, otherDevice, partAnswer, partOut}
 use Rattle.logic.specs.Demand.{OnlyShort, partRows, PartIsCut}
 use Rattle.logic.proofs.Words.{length-words, words-whole, rows-words}
 use Rattle.logic.proofs.Cuts.{mode-is-cut}
-use Rattle.logic.proofs.Contradiction.{no-contradiction}
 
 pub one-true : (b : Bool) → one b ≡ 1 → b ≡ true
 one-true true e = refl
@@ -81,10 +80,6 @@ module _ (rule table : List ℕ) (rule-ok : acceptedRule rule ≡ true) (table-o
         let e : rowAt table i .device ≡ rowAt table 0 .device = own (rowAt table i) (row-in table i h) ∙ sym (own (rowAt table 0) (row-in table 0 (omega arith))) in
         ap not (eq-eqb (rowAt table i .device) (rowAt table 0 .device) e)
 
-    no-15 : (b : Bool) → not (b && contradiction (formula rule) (rows table)) ≡ true
-    no-15 true = ap not (no-contradiction (formula rule) (rows table))
-    no-15 false = refl
-
     -- only a short output is left to refuse
     pub part-is : partAnswer rule table mode (length out) ≡ unless (leb (length (wordsOf sent)) (length out)) 17 (Done (length sent))
     unfolding partAnswer
@@ -93,7 +88,6 @@ module _ (rule table : List ℕ) (rule-ok : acceptedRule rule ≡ true) (table-o
         ∙ andThen-passed (checkTable table) _ table-ok
         ∙ unless-passed (leb 1 mode && leb mode 3) 13 _ (and-both (leb 1 mode) (leb mode 3) (le-leb 1 mode low) (le-leb mode 3 high))
         ∙ unlessAny-passed (otherDevice table) 14 (rowCount table) _ one-device
-        ∙ unless-passed (not (eqb mode 3 && contradiction (formula rule) (rows table))) 15 _ (no-15 (eqb mode 3))
 
     done-is : (b : Bool) → partAnswer rule table mode (length out) ≡ unless b 17 (Done (length sent)) → isDone (partAnswer rule table mode (length out)) ≡ true → partAnswer rule table mode (length out) ≡ Done (length sent)
     done-is true e d = e

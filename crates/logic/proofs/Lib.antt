@@ -7,7 +7,7 @@ pub mod Ancestors
 pub mod Cuts
 pub mod Members
 pub mod Monotone
-pub mod Contradiction
+pub mod Retired
 pub mod Devices
 pub mod Selections
 pub mod Joinings

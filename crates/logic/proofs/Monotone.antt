@@ -1,8 +1,9 @@
--- Making an elsewhere variable known changes no certain reading, so no quantifier over roots meets both of its tests. Assumes nothing.
+-- Making an elsewhere variable known changes no certain reading, so a reading over roots can't come out both ways. Assumes nothing.
 use Prim.Native.Nat.{ℕ, suc}
 use mathlib.Core.Path.{_≡_, refl, sym, ap, _∙_}
-use mathlib.Core.Bool.{Bool, true, false, not, cond, _&&_, true≢false, false≢true}
+use mathlib.Core.Bool.{Bool, true, false, not, cond, _&&_, and-false, true≢false, false≢true}
 use mathlib.Core.List.{List, [], _∷_}
+use native.Mathlib.Omega.{arith}
 use lib.Dec.{eqb}
 use Rattle.base.specs.Lists.{select}
 use Rattle.base.proofs.Bools.{either}
@@ -12,6 +13,7 @@ use Rattle.tables.specs.declared.Row.{Row}
 use Rattle.logic.specs.Formulas.{Formula, negation, joined, quantified, compared, Quantifier, every, some, Connective, and, or, implies, Comparison, roots, under, Operand, variable, constant}
 use Rattle.logic.specs.Verdict.{Place, nothing, bound, Bindings, bind, named, hangs, settled}
 use Rattle.logic.specs.Reading.{Reading, certain, undecided, reads, notReading, andReading, connectReading, known, valueRead, operandRead, compareReading, bothReading, underBound, firstTest, secondTest, underElsewhere, overRoots, underPlace, reading}
+use Rattle.logic.specs.Elsewhere.{bodyReading, OneWay}
 
 -- what was certain stays
 data Below : Reading → Reading → Type 0 where
@@ -61,6 +63,10 @@ below-both every h k = below-connect and h k
 below-both some h k = below-connect or h k
 
 -- ---- readings of one value
+certain-stays : {x y : Reading} {a : Bool} → Below x y → x ≡ certain a → y ≡ certain a
+certain-stays {a = a} free e = let z : _≡_ {A = ℕ} 0 1 = cc in absurd (omega arith)
+certain-stays stay e = e
+
 below-reads : {x y : Reading} (b : Bool) → Below x y → reads b x ≡ true → reads b y ≡ true
 below-reads true free e = absurd (false≢true e)
 below-reads false free e = absurd (false≢true e)
@@ -149,8 +155,45 @@ monotone (quantified q (under v) n φ) D d {σ} {τ} g =
     under-below q (λ p. reading φ D (suc d) (bind d p σ)) (λ p. reading φ D (suc d) (bind d p τ)) (λ p p′ k. monotone φ D (suc d) (bind-extends d k g)) n D (g v)
 monotone (compared c v w) D d g = compared-below g c w (g v)
 
--- the first and the second test of a quantifier over roots never both pass
-pub tests-exclude : (q : Quantifier) (φ : Formula) (D : List Row) (d : ℕ) (σ : Bindings) (own : List Row)
-    → secondTest q (λ p. reading φ D (suc d) (bind d p σ)) ≡ true → firstTest q (λ p. reading φ D (suc d) (bind d p σ)) own ≡ false
-tests-exclude q φ D d σ own =
-    never-decides q (λ p. reading φ D (suc d) (bind d p σ)) (λ p. reading φ D (suc d) (bind d p σ)) (λ p p′ i. monotone φ D (suc d) (bind-extends d i (λ v. known-refl (σ v)))) own
+-- ---- a body, with its own variable elsewhere and at a row
+module _ (φ : Formula) (D : List Row) (d : ℕ) (b : Bindings) where
+  abbrev body : Place → Reading
+  body = bodyReading φ D d b
+
+  body-below : (p p′ : Place) → Known p p′ → Below (body p) (body p′)
+  body-below p p′ k = monotone φ D (suc d) (bind-extends d k (λ v. known-refl (b v)))
+
+  never-both : (q : Quantifier) (own : List Row) → (firstTest q body own && secondTest q body) ≡ false
+  never-both q own = either (secondTest q body)
+      (λ e. rw (never-decides q body body body-below own e))
+      (λ e. rw e (and-false (firstTest q body own)))
+
+  pub one-way : OneWay φ D d b
+  one-way = record {
+    kept = λ r a e. certain-stays (body-below nothing (bound r) elsewhere) e;
+    not-both = never-both;
+  }
+
+  -- so a quantifier over roots reads the value that settles it by its second test alone, and the other by its first
+  pub roots-settled : (q : Quantifier) (own : List Row) → reads (settled q) (overRoots q body own) ≡ secondTest q body
+  roots-settled q own = go q (firstTest q body own) (secondTest q body) (never-both q own)
+    where
+      go : (k : Quantifier) (x y : Bool) → (x && y) ≡ false → reads (settled k) (cond x (certain (not (settled k))) (cond y (certain (settled k)) undecided)) ≡ y
+      go k true true h = absurd (true≢false h)
+      go every true false h = refl
+      go some true false h = refl
+      go every false true h = refl
+      go some false true h = refl
+      go every false false h = refl
+      go some false false h = refl
+
+pub roots-decided : (q : Quantifier) (f : Place → Reading) (own : List Row) → reads (not (settled q)) (overRoots q f own) ≡ firstTest q f own
+roots-decided q f own = go q (firstTest q f own) (secondTest q f)
+  where
+    go : (k : Quantifier) (x y : Bool) → reads (not (settled k)) (cond x (certain (not (settled k))) (cond y (certain (settled k)) undecided)) ≡ x
+    go every true y = refl
+    go some true y = refl
+    go every false true = refl
+    go some false true = refl
+    go every false false = refl
+    go some false false = refl

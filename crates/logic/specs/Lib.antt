@@ -2,5 +2,6 @@ pub mod Formulas
 pub mod Verdict
 pub mod Marks
 pub mod Reading
+pub mod Elsewhere
 pub mod Parts
 pub mod Demand

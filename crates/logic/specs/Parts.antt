@@ -14,7 +14,7 @@ use Rattle.tables.specs.declared.Answer.{Answer}
 use Rattle.tables.specs.declared.Answer.the-variants.{Done}
 use Rattle.logic.specs.Formulas.{Formula, negation, joined, quantified, compared, Over, roots, under, formula}
 use Rattle.logic.specs.Verdict.{Bindings, bind, bound, noneBound, named, settled}
-use Rattle.logic.specs.Reading.{reading, reads, contradicts}
+use Rattle.logic.specs.Reading.{reading, reads}
 
 -- ---- reaching: for each variable bound so far and each row, the bindings along the chain by which the variable's quantifier
 -- reaches the row; none where it does not
@@ -56,18 +56,6 @@ spareIn (compared c v w) D d K r = true
 unfoldable pub spare : Formula → List Row → Row → Bool
 spare F D r = spareIn F D 0 noChains r
 
--- 15: in a body read for spare rows, one quantifier over roots meets both its tests
-unfoldable pub contradictsIn : Formula → List Row → ℕ → Chains → Row → Bool
-contradictsIn (negation φ) D d K r = contradictsIn φ D d K r
-contradictsIn (joined c φ ψ) D d K r = contradictsIn φ D d K r || contradictsIn ψ D d K r
-contradictsIn (quantified q o n φ) D d K r =
-    any (contradicts φ D (suc d)) (reach D o n d K r)
-    || contradictsIn φ D (suc d) (chainsWith d (reach D o n d K) K) r
-contradictsIn (compared c v w) D d K r = false
-
-unfoldable pub contradiction : Formula → List Row → Bool
-contradiction F D = any (contradictsIn F D 0 noChains) D
-
 -- ---- parts
 -- the rows above r, nearest first: one walk back through the rows before it, which hold its parent
 unfoldable pub lineage : List Row → Row → List Row
@@ -108,9 +96,8 @@ partAnswer rule table mode room =
     andThen (checkRule rule) (andThen (checkTable table)
     (unless (leb 1 mode && leb mode 3) 13
     (unlessAny (otherDevice table) 14 (rowCount table)
-    (unless (not (eqb mode 3 && contradiction (formula rule) (rows table))) 15
     (unless (leb (length (wordsOf sent)) room) 17
-    (Done (length sent)))))))
+    (Done (length sent))))))
 
 unfoldable pub partOut : List ℕ → List ℕ → ℕ → List ℕ → List ℕ
 partOut rule table mode out = output (partAnswer rule table mode (length out)) (wordsOf (partOf (formula rule) mode (rows table))) out

@@ -1,7 +1,7 @@
 -- 01, Spare rows: how an entry reads on one device's rows, with each variable bound to one of them or elsewhere. Assumes nothing.
 use Prim.Native.Nat.{ℕ, suc}
-use mathlib.Core.Bool.{Bool, true, false, not, cond, _&&_, _||_}
-use mathlib.Core.List.{List, [], _∷_, map}
+use mathlib.Core.Bool.{Bool, true, false, not, cond}
+use mathlib.Core.List.{List, [], _∷_}
 use Rattle.base.specs.Lists.{select, any}
 use Rattle.tables.specs.declared.Row.{Row}
 use Rattle.logic.specs.Formulas.{Formula, negation, joined, quantified, compared, Quantifier, every, some, Connective, and, or, implies, Comparison, Over, roots, under, Operand, variable, constant}
@@ -92,25 +92,3 @@ reading (negation φ) D d b = notReading (reading φ D d b)
 reading (joined c φ ψ) D d b = connectReading c (reading φ D d b) (reading ψ D d b)
 reading (quantified q o n φ) D d b = quantify q o b (λ p. reading φ D (suc d) (bind d p b)) (select (ranges o n b) D)
 reading (compared c v w) D d b = compareReading c (valueRead (b v)) (operandRead b w)
-
--- ---- 15: in that reading, one quantifier over roots meets both its first and its second test
--- the places at which a quantifier's body is read
-abbrev pub placesUnder : Place → List Row → List Place
-placesUnder nothing own = nothing ∷ []
-placesUnder (bound p) own = map bound own
-
-abbrev pub placesRead : Over → Bindings → List Row → List Place
-placesRead roots b own = nothing ∷ map bound own
-placesRead (under v) b own = placesUnder (b v) own
-
-abbrev pub bothTests : Over → Quantifier → (Place → Reading) → List Row → Bool
-bothTests roots q body own = firstTest q body own && secondTest q body
-bothTests (under v) q body own = false
-
-unfoldable pub contradicts : Formula → List Row → ℕ → Bindings → Bool
-contradicts (negation φ) D d b = contradicts φ D d b
-contradicts (joined c φ ψ) D d b = contradicts φ D d b || contradicts ψ D d b
-contradicts (quantified q o n φ) D d b =
-    bothTests o q (λ p. reading φ D (suc d) (bind d p b)) (select (ranges o n b) D)
-    || any (λ p. contradicts φ D (suc d) (bind d p b)) (placesRead o b (select (ranges o n b) D))
-contradicts (compared c v w) D d b = false

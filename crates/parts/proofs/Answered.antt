@@ -16,13 +16,13 @@ use Rattle.tables.specs.Tables.{checkTable}
 use Rattle.tables.specs.declared.Row.{Row}
 use Rattle.tables.specs.declared.Answer.{Answer}
 use Rattle.tables.specs.declared.Answer.the-variants.{Done, Refused}
+use Rattle.tables.proofs.Accepted.{few-rows}
 use Rattle.tables.proofs.Answers.{unless-next, andThen-first, andThen-next, none-of}
 use Rattle.logic.specs.Formulas.{formula}
-use Rattle.logic.specs.Parts.{contradiction, partOf, wordsOf, otherDevice, partAnswer, partOut}
+use Rattle.logic.specs.Parts.{partOf, wordsOf, otherDevice, partAnswer, partOut}
 use Rattle.logic.proofs.Words.{length-words}
 use Rattle.parts.specs.Keeping.{ReadyPart, Keeps}
 use Rattle.parts.specs.Sending.{rowsSent, requestAnswer, Chooses}
-use Rattle.parts.specs.declared.keeping.Kept.{Kept}
 use Rattle.parts.specs.declared.calls.Choice.{Choice}
 use Rattle.parts.proofs.Sent.{sent-is, count-is}
 
@@ -93,33 +93,30 @@ module _ (rule t : List ℕ) (m room : ℕ) where
   abbrev short : Answer
   short = unless (leb (length (wordsOf sent)) room) 17 (Done (length sent))
 
-  abbrev last : Answer
-  last = unless (not (eqb m 3 && contradiction (formula rule) (rows t))) 15 short
-
-  in-turn : partAnswer rule t m room ≡ andThen (requestAnswer rule t m (Done 0)) last
+  in-turn : partAnswer rule t m room ≡ andThen (requestAnswer rule t m (Done 0)) short
   unfolding partAnswer
   in-turn =
       let fault = otherDevice t in
       let n = rowCount t in
       let ok = leb 1 m && leb m 3 in
       let device = unlessAny fault 14 n (Done 0) in
-      ap (λ (z : Answer). andThen (checkRule rule) (andThen (checkTable t) (unless ok 13 z))) (next-any (some fault n) 14 (first fault n) 0 last)
+      ap (λ (z : Answer). andThen (checkRule rule) (andThen (checkTable t) (unless ok 13 z))) (next-any (some fault n) 14 (first fault n) 0 short)
       ∙ ap (λ (z : Answer). andThen (checkRule rule) (andThen (checkTable t) z)) (behind ok device)
-      ∙ ap (andThen (checkRule rule)) (next-then (checkTable t) (unless ok 13 device) last)
-      ∙ next-then (checkRule rule) (andThen (checkTable t) (unless ok 13 device)) last
+      ∙ ap (andThen (checkRule rule)) (next-then (checkTable t) (unless ok 13 device) short)
+      ∙ next-then (checkRule rule) (andThen (checkTable t) (unless ok 13 device)) short
     where
-      behind : (b : Bool) (z : Answer) → unless b 13 (andThen z last) ≡ andThen (unless b 13 z) last
+      behind : (b : Bool) (z : Answer) → unless b 13 (andThen z short) ≡ andThen (unless b 13 z) short
       behind true z = refl
       behind false z = refl
 
-  module _ (a : Answer) (a-is : a ≡ requestAnswer rule t m (Done 0)) where
-    answer-is : partAnswer rule t m room ≡ andThen a last
-    answer-is = in-turn ∙ ap (λ (z : Answer). andThen z last) (sym a-is)
+  module _ {a : Answer} (a-is : a ≡ requestAnswer rule t m (Done 0)) where
+    answer-is : partAnswer rule t m room ≡ andThen a short
+    answer-is = in-turn ∙ ap (λ (z : Answer). andThen z short) (sym a-is)
 
-    pub request-refused : (k p : ℕ) → a ≡ Refused k p → Refused k p ≡ partAnswer rule t m room
-    request-refused k p e = sym (answer-is ∙ ap (λ (z : Answer). andThen z last) e)
+    pub request-refused : {k p : ℕ} → a ≡ Refused k p → Refused k p ≡ partAnswer rule t m room
+    request-refused e = sym (answer-is ∙ ap (λ (z : Answer). andThen z short) e)
 
-    module _ (x : ℕ) (done : a ≡ Done x) where
+    module _ {x : ℕ} (done : a ≡ Done x) where
       passed : isDone (requestAnswer rule t m (Done 0)) ≡ true
       passed = ap isDone (sym a-is ∙ done)
 
@@ -150,46 +147,40 @@ module _ (rule t : List ℕ) (m room : ℕ) where
         };
       }
 
-      -- ---- 15 and 17
-      module _ (k : Kept) (keeps : Keeps rule t m k) where
-        last-is : partAnswer rule t m room ≡ unless (not (k .contradicted)) 15 short
-        last-is = answer-is ∙ ap (λ (z : Answer). andThen z last) done ∙ ap (λ (b : Bool). unless (not b) 15 short) (sym (keeps .contradicted))
+      -- ---- 17
+      short-is : partAnswer rule t m room ≡ short
+      short-is = answer-is ∙ ap (λ (z : Answer). andThen z short) done
 
-        pub contradiction-refused : k .contradicted ≡ true → Refused 15 0 ≡ partAnswer rule t m room
-        contradiction-refused e = sym (last-is ∙ ap (λ (b : Bool). unless (not b) 15 short) e)
+      module _ {kept : List ℕ} (keeps : Keeps rule t m kept (rowCount t)) {n count : ℕ} (n-is : n ≡ rowCount t) (count-of : count ≡ sumBelow (λ j. getD kept j 0) n) where
+        count-sent : count ≡ length sent
+        count-sent = count-of ∙ ap (sumBelow (λ j. getD kept j 0)) n-is ∙ count-is rule t kept m keeps
 
-        module _ (clear : k .contradicted ≡ false) (n count : ℕ) (n-is : n ≡ rowCount t) (count-of : count ≡ sumBelow (λ j. getD (k .row) j 0) n) where
-          count-sent : count ≡ length sent
-          count-sent = count-of ∙ ap (sumBelow (λ j. getD (k .row) j 0)) n-is ∙ count-is rule t (k .row) m (keeps .marked)
+        words-sent : length (wordsOf sent) ≡ 5 * count
+        words-sent = length-words sent ∙ ap (λ (j : ℕ). 5 * j) (sym count-sent)
 
-          words-sent : length (wordsOf sent) ≡ 5 * count
-          words-sent = length-words sent ∙ ap (λ (j : ℕ). 5 * j) (sym count-sent)
+        pub short-refused : room < 5 * count → Refused 17 0 ≡ partAnswer rule t m room
+        short-refused h = sym (short-is ∙ ap (λ (b : Bool). unless b 17 (Done (length sent))) (lt-leb (length (wordsOf sent)) room (omega (arith, words-sent))))
 
-          pub words-kept : length (wordsOf (rowsSent t (k .row) 0 (rowCount t))) ≡ 5 * count
-          words-kept = ap (λ (D : List Row). length (wordsOf D)) (sent-is rule t (k .row) m (keeps .marked)) ∙ words-sent
+        part-done : 5 * count ≤ room → Done count ≡ partAnswer rule t m room
+        part-done h =
+            sym (short-is ∙ ap (λ (b : Bool). unless b 17 (Done (length sent))) (le-leb (length (wordsOf sent)) room (omega (arith, words-sent)))
+            ∙ ap Done (sym count-sent))
 
-          short-is : partAnswer rule t m room ≡ short
-          short-is = last-is ∙ ap (λ (b : Bool). unless (not b) 15 short) clear
+        rows-fit : n ≤ length kept
+        rows-fit = omega (arith, few-rows t (ready .device .accepted), keeps .sized)
 
-          pub short-refused : room < 5 * count → Refused 17 0 ≡ partAnswer rule t m room
-          short-refused h = sym (short-is ∙ ap (λ (b : Bool). unless b 17 (Done (length sent))) (lt-leb (length (wordsOf sent)) room (omega (arith, words-sent))))
-
-          pub part-done : 5 * count ≤ room → Done count ≡ partAnswer rule t m room
-          part-done h =
-              sym (short-is ∙ ap (λ (b : Bool). unless b 17 (Done (length sent))) (le-leb (length (wordsOf sent)) room (omega (arith, words-sent)))
-              ∙ ap Done (sym count-sent))
-
-          pub chooses-done : rowCount t ≤ length (k .row) → 5 * count ≤ room → Chooses rule t m room (record { answer = Done count; row = k .row })
-          chooses-done l h = record {
-            answer = part-done h;
-            sized = λ _. l;
-            sent = λ _. sent-is rule t (k .row) m (keeps .marked);
-            fits = λ _. omega (arith, words-sent);
-          }
+        pub chooses-done : 5 * count ≤ room → Chooses rule t m room (record { answer = Done count; row = kept })
+        chooses-done h = record {
+          answer = part-done h;
+          sized = λ _. omega (arith, rows-fit);
+          sent = λ _. sent-is rule t kept m keeps;
+          fits = λ _. omega (arith, words-sent);
+        }
 
 -- a refusal, whatever the bytes
-pub chooses-refused : (rule t : List ℕ) (m room k p : ℕ) (bytes : List ℕ) → Refused k p ≡ partAnswer rule t m room → Chooses rule t m room (record { answer = Refused k p; row = bytes })
-chooses-refused rule t m room k p bytes e = record { answer = e; sized = λ h. absurd (false≢true h); sent = λ h. absurd (false≢true h); fits = λ h. absurd (false≢true h) }
+pub chooses-refused : (rule t : List ℕ) (m room : ℕ) {k p : ℕ} {bytes : List ℕ} → Refused k p ≡ partAnswer rule t m room
+    → Chooses rule t m room (record { answer = Refused k p; row = bytes })
+chooses-refused rule t m room e = record { answer = e; sized = λ h. absurd (false≢true h); sent = λ h. absurd (false≢true h); fits = λ h. absurd (false≢true h) }
 
 -- ---- the output
 pub out-kept : (rule t : List ℕ) (m : ℕ) (out : List ℕ) (k p : ℕ) → Refused k p ≡ partAnswer rule t m (length out) → out ≡ partOut rule t m out

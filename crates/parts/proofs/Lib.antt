@@ -1,8 +1,8 @@
-pub mod Codes
+pub mod Asking
 pub mod Comparing
-pub mod Folding
 pub mod Spans
 pub mod Steps
+pub mod Quantifiers
 pub mod Parentage
 pub mod Climbs
 pub mod Omits

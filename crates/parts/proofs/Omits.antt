@@ -1,8 +1,8 @@
 -- One law for each way through the test whether a row is left out by itself, over plain variables. Assumes nothing.
-use Prim.Native.Nat.{ℕ, suc, _+_, _<_, _≤_}
+use Prim.Native.Nat.{ℕ, suc, _+_, _-_, _<_, _≤_}
 use mathlib.Core.Path.{_≡_, refl, sym, ap, ap₂, subst, _∙_}
 use mathlib.Core.Logic.{⊎-elim}
-use mathlib.Core.Bool.{Bool, true, false, not, cond, _&&_, _||_, true≢false, false≢true}
+use mathlib.Core.Bool.{Bool, true, false, not, cond, _&&_, _||_}
 use mathlib.Core.List.{List, [], _∷_}
 use native.Mathlib.Nat.{eq-or-lt-of-le}
 use native.Mathlib.Numerals.{add-one}
@@ -21,38 +21,35 @@ use Rattle.logic.specs.Verdict.{Bindings, settled}
 use Rattle.logic.specs.Reading.{reading, reads}
 use Rattle.logic.specs.Parts.{Chains, chainsWith, reach, reachedIn, spareIn}
 use Rattle.engine.specs.Ready.{quantifierOf, meant}
+use Rattle.engine.proofs.Steps.{settled-kind}
 use Rattle.engine.proofs.Opened.{Opened, opened, not-formula, joined-formula, quantified-formula, compared-formula}
-use Rattle.parts.specs.Codes.{ofBool, ends, endsLeft, settlesKind}
-use Rattle.parts.specs.Device.{readAt}
+use Rattle.parts.specs.Device.{readsAt}
 use Rattle.parts.specs.Reaching.{withBinder, chainsBelow, reachAt, chainOf, ReadyClimb, Climbed}
 use Rattle.parts.specs.Omitting.{omittedIn, letsOut, ReadyBody, omittedAt, ReadyOmit}
-use Rattle.parts.specs.declared.readings.Reading.{Reading}
-use Rattle.parts.specs.declared.readings.Reading.the-variants.{True, False}
 use Rattle.parts.specs.declared.chains.Binders.{Binders}
 use Rattle.parts.specs.declared.chains.Chain.{Chain}
-use Rattle.parts.proofs.Codes.{settles-code, ends-bool}
 use Rattle.parts.proofs.Climbs.{chains-same}
 
 -- ---- one quantifier
-module _ (rule t : List ℕ) (c : Chain) (k body m : ℕ) (ready : ReadyBody rule t c k body) where
+module _ {rule t : List ℕ} {c : Chain} {k body : ℕ} (ready : ReadyBody rule t c k body) (m : ℕ) where
   abbrev lets : Bindings → Bool
   lets = letsOut m (quantifierOf k) (formulaAt rule body) (rows t) (c .bound .depth)
 
-  pub lets-unreached : c .found ≡ false → True ≡ ofBool (all lets (chainOf t c))
-  lets-unreached e = sym (ap (λ (z : Bool). ofBool (all lets (when z (meant t (c .bound) ∷ [])))) e)
+  pub lets-unreached : c .found ≡ false → true ≡ all lets (chainOf t c)
+  lets-unreached e = sym (ap (λ (z : Bool). all lets (when z (meant t (c .bound) ∷ []))) e)
 
   module _ (e : c .found ≡ true) where
-    one-chain : (o : Reading) → o ≡ ofBool (lets (meant t (c .bound)) && true) → o ≡ ofBool (all lets (chainOf t c))
-    one-chain o h = h ∙ sym (ap (λ (z : Bool). ofBool (all lets (when z (meant t (c .bound) ∷ [])))) e)
+    one-chain : (o : Bool) → o ≡ (lets (meant t (c .bound)) && true) → o ≡ all lets (chainOf t c)
+    one-chain o h = h ∙ sym (ap (λ (z : Bool). all lets (when z (meant t (c .bound) ∷ []))) e)
 
-    pub lets-branch : m ≡ 2 → False ≡ ofBool (all lets (chainOf t c))
-    lets-branch z = one-chain False (rw (eq-eqb m 2 z))
+    pub lets-branch : m ≡ 2 → false ≡ all lets (chainOf t c)
+    lets-branch z = one-chain false (rw (eq-eqb m 2 z))
 
-    pub lets-full : (m ≡ 2 → ⊥) → (x o : Reading) → x ≡ readAt rule t (c .bound) body → o ≡ settlesKind k x → o ≡ ofBool (all lets (chainOf t c))
-    lets-full n x o x-is o-is = one-chain o
-        (o-is ∙ ap (settlesKind k) x-is
-        ∙ settles-code k (ready .over-four) (ready .below-seven) (reading (formulaAt rule body) (rows t) (c .bound .depth) (meant t (c .bound)))
-        ∙ ap ofBool (sym (whole (reads (settled (quantifierOf k)) (reading (formulaAt rule body) (rows t) (c .bound .depth) (meant t (c .bound)))))))
+    pub lets-full : (m ≡ 2 → ⊥) → {o : Bool} → o ≡ readsAt rule t (c .bound) body (eqb k 5) → o ≡ all lets (chainOf t c)
+    lets-full n {o} o-is = one-chain o
+        (o-is
+        ∙ ap (readsAt rule t (c .bound) body) (sym (settled-kind k))
+        ∙ sym (whole (readsAt rule t (c .bound) body (settled (quantifierOf k)))))
       where
         whole : (x : Bool) → (cond (eqb m 2) false x && true) ≡ x
         whole true = rw (ne-eqb m 2 n)
@@ -95,27 +92,18 @@ module _ (m : ℕ) (D : List Row) (d : ℕ) (K : Chains) (r : Row) where
       go true (β ∷ L) = refl
       go false L = refl
 
--- ---- a side of and that is true or false
-module _ (x : Bool) (s : Reading) (s-is : s ≡ ofBool x) (d : Bool) (d-is : d ≡ endsLeft 2 s) where
-  ends-is : d ≡ not x
-  ends-is = d-is ∙ ap ends s-is ∙ ends-bool x
+-- ---- and
+side-false : (x y : Bool) → x ≡ false → false ≡ (x && y)
+side-false x y e = sym (ap (λ (z : Bool). z && y) e)
 
-  side-false : d ≡ true → (y : Bool) → s ≡ ofBool (x && y)
-  side-false e y = s-is ∙ ap ofBool (go x (sym ends-is ∙ e))
-    where
-      go : (z : Bool) → not z ≡ true → z ≡ (z && y)
-      go true h = absurd (false≢true h)
-      go false h = refl
+side-true : (x y : Bool) → x ≡ true → y ≡ (x && y)
+side-true x y e = sym (ap (λ (z : Bool). z && y) e)
 
-  side-true : d ≡ false → (y : Bool) (o : Reading) → o ≡ ofBool y → o ≡ ofBool (x && y)
-  side-true e y o o-is = o-is ∙ ap ofBool (go x (sym ends-is ∙ e))
-    where
-      go : (z : Bool) → not z ≡ false → y ≡ (z && y)
-      go true h = refl
-      go false h = absurd (true≢false h)
+-- ---- an entry that has been read; a call for another rests on the falling number, below n, and that it can be read
+abbrev pub OmitCall : List ℕ → List ℕ → List ℕ → Binders → ℕ → ℕ → ℕ → Type 0
+OmitCall rule t parents by e i n = (entryCount rule - e < n) × ReadyOmit rule t parents by e i
 
--- ---- an entry that has been read
-module _ (rule t parents : List ℕ) (by : Binders) (e i : ℕ) (ready : ReadyOmit rule t parents by e i) (m : ℕ) (x : Entry) (x-is : x ≡ entryAt rule e) where
+module _ {rule t parents : List ℕ} {by : Binders} {e i : ℕ} (ready : ReadyOmit rule t parents by e i) (m : ℕ) {x : Entry} (x-is : x ≡ entryAt rule e) where
   opens : Opened rule e x
   opens = opened rule (ready .rule-accepted) e (ready .inside) x x-is
 
@@ -134,53 +122,50 @@ module _ (rule t parents : List ℕ) (by : Binders) (e i : ℕ) (ready : ReadyOm
   abbrev chains : Chains
   chains = chainsBelow rule t (by .entry) (by .depth)
 
-  module _ (low : x .kind < 5) where
-    pub child-later : (e < x .a) × (x .a < entryCount rule)
-    child-later = opens .child (omega arith)
-
-    pub child-ready : ReadyOmit rule t parents by (x .a) i
-    child-ready = at-depth (x .a) (child-later .1) (opens .child-depth (omega arith))
+  pub child-call : x .kind < 5 → {n : ℕ} → entryCount rule - e ≡ n → OmitCall rule t parents by (x .a) i n
+  child-call low n-is =
+      let l = opens .child (omega arith) in
+      (omega (arith, l .0, l .1), at-depth (x .a) (l .1) (opens .child-depth (omega arith)))
 
   -- kind 1
-  pub omit-not : x .kind ≡ 1 → (o : Reading) → o ≡ ofBool (omittedAt m rule t by (x .a) i) → o ≡ ofBool (omittedAt m rule t by e i)
-  omit-not h o o-is = o-is
-      ∙ ap ofBool (sym (ap (λ (F : Formula). omittedIn m F (rows t) (by .depth) chains (rowAt t i)) (not-formula rule e x opens h)
-      ∙ omitted-not m (rows t) (by .depth) chains (rowAt t i) (formulaAt rule (x .a))))
+  pub omit-not : x .kind ≡ 1 → {o : Bool} → o ≡ omittedAt m rule t by (x .a) i → o ≡ omittedAt m rule t by e i
+  omit-not h o-is = o-is
+      ∙ sym (ap (λ (F : Formula). omittedIn m F (rows t) (by .depth) chains (rowAt t i)) (not-formula rule e x opens h)
+      ∙ omitted-not m (rows t) (by .depth) chains (rowAt t i) (formulaAt rule (x .a)))
 
   -- kinds 2 to 4
   module _ (not-one : x .kind ≡ 1 → ⊥) (low : x .kind < 5) where
     two : 2 ≤ x .kind
     two = omega (arith, opens .kind-range .0)
 
-    pub right-later : (e < x .b) × (x .b < entryCount rule)
-    right-later = opens .right two (omega arith)
-
-    pub right-ready : ReadyOmit rule t parents by (x .b) i
-    right-ready = at-depth (x .b) (right-later .1) (opens .right-depth two (omega arith))
+    pub right-call : {n : ℕ} → entryCount rule - e ≡ n → OmitCall rule t parents by (x .b) i n
+    right-call n-is =
+        let l = opens .right two (omega arith) in
+        (omega (arith, l .0, l .1), at-depth (x .b) (l .1) (opens .right-depth two (omega arith)))
 
     both-sides : omittedAt m rule t by e i ≡ (omittedAt m rule t by (x .a) i && omittedAt m rule t by (x .b) i)
     both-sides =
         ap (λ (F : Formula). omittedIn m F (rows t) (by .depth) chains (rowAt t i)) (joined-formula rule e x opens two (omega arith))
         ∙ omitted-joined m (rows t) (by .depth) chains (rowAt t i) _ (formulaAt rule (x .a)) (formulaAt rule (x .b))
 
-    module _ (s : Reading) (s-is : s ≡ ofBool (omittedAt m rule t by (x .a) i)) (d : Bool) (d-is : d ≡ endsLeft 2 s) where
-      pub omit-left : d ≡ true → s ≡ ofBool (omittedAt m rule t by e i)
-      omit-left h = side-false (omittedAt m rule t by (x .a) i) s s-is d d-is h (omittedAt m rule t by (x .b) i) ∙ ap ofBool (sym both-sides)
+    module _ {s : Bool} (s-is : s ≡ omittedAt m rule t by (x .a) i) where
+      pub omit-left : s ≡ false → false ≡ omittedAt m rule t by e i
+      omit-left h = side-false (omittedAt m rule t by (x .a) i) (omittedAt m rule t by (x .b) i) (sym s-is ∙ h) ∙ sym both-sides
 
-      pub omit-right : d ≡ false → (o : Reading) → o ≡ ofBool (omittedAt m rule t by (x .b) i) → o ≡ ofBool (omittedAt m rule t by e i)
-      omit-right h o o-is = side-true (omittedAt m rule t by (x .a) i) s s-is d d-is h (omittedAt m rule t by (x .b) i) o o-is ∙ ap ofBool (sym both-sides)
+      pub omit-right : s ≡ true → {o : Bool} → o ≡ omittedAt m rule t by (x .b) i → o ≡ omittedAt m rule t by e i
+      omit-right h o-is = o-is ∙ side-true (omittedAt m rule t by (x .a) i) (omittedAt m rule t by (x .b) i) (sym s-is ∙ h) ∙ sym both-sides
 
   -- kinds 7 to 9
-  pub omit-compared : 6 < x .kind → True ≡ ofBool (omittedAt m rule t by e i)
-  omit-compared h = ap ofBool (sym (ap (λ (F : Formula). omittedIn m F (rows t) (by .depth) chains (rowAt t i)) (compared-formula rule e x opens h)
-      ∙ omitted-compared m (rows t) (by .depth) chains (rowAt t i) _ (x .a) _))
+  pub omit-compared : 6 < x .kind → true ≡ omittedAt m rule t by e i
+  omit-compared h = sym (ap (λ (F : Formula). omittedIn m F (rows t) (by .depth) chains (rowAt t i)) (compared-formula rule e x opens h)
+      ∙ omitted-compared m (rows t) (by .depth) chains (rowAt t i) _ (x .a) _)
 
   -- kinds 5 and 6
   module _ (high : 5 ≤ x .kind) (low : x .kind ≤ 6) where
     pub room : by .depth < nestingLimit
     room = omega (arith, opens .nesting high low, ready .depth-is)
 
-    pub body-later : (e < x .a) × (x .a < entryCount rule)
+    body-later : (e < x .a) × (x .a < entryCount rule)
     body-later = opens .child low
 
     over-depth : entryAt rule e .b ≤ by .depth
@@ -199,7 +184,7 @@ module _ (rule t parents : List ℕ) (by : Binders) (e i : ℕ) (ready : ReadyOm
     }
 
     -- how the quantifier reaches the row
-    module _ (c : Chain) (climbed : Climbed rule t (by .entry) (by .depth) e i c) where
+    module _ {c : Chain} (climbed : Climbed rule t (by .entry) (by .depth) e i c) where
       pub body-ready : ReadyBody rule t c (x .kind) (x .a)
       body-ready = record {
         over-four = high;
@@ -236,18 +221,18 @@ module _ (rule t parents : List ℕ) (by : Binders) (e i : ℕ) (ready : ReadyOm
           && omittedIn m (formulaAt rule (x .a)) (rows t) (suc (by .depth)) (chainsWith (by .depth) (reach (rows t) (overOf (z .b)) (z .c) (by .depth) chains) chains) (rowAt t i)) x-is
           ∙ ap (λ (z : Bool). z && inner) (sym own-test)
 
-      module _ (s : Reading) (s-is : s ≡ ofBool (all (lets-at (c .bound .depth)) (chainOf t c))) (d : Bool) (d-is : d ≡ endsLeft 2 s) where
-        pub omit-own : d ≡ true → s ≡ ofBool (omittedAt m rule t by e i)
-        omit-own h = side-false (all (lets-at (c .bound .depth)) (chainOf t c)) s s-is d d-is h inner ∙ ap ofBool (sym both-tests)
+      module _ {s : Bool} (s-is : s ≡ all (lets-at (c .bound .depth)) (chainOf t c)) where
+        pub omit-own : s ≡ false → false ≡ omittedAt m rule t by e i
+        omit-own h = side-false (all (lets-at (c .bound .depth)) (chainOf t c)) inner (sym s-is ∙ h) ∙ sym both-tests
 
-        module _ (by′ : Binders) (by-is : by′ ≡ withBinder by e) where
+        module _ {by′ : Binders} (by-is : by′ ≡ withBinder by e) where
           inside : by .depth < length (by .entry)
           inside = omega (arith, room, ready .sized)
 
           same-below : (v : ℕ) → v < by .depth → getD (by .entry) v 0 ≡ getD (set (by .entry) (by .depth) e) v 0
           same-below v l = sym (getD-set-other (by .entry) (by .depth) v e 0 (λ q. omega arith))
 
-          pub with-ready : ReadyOmit rule t parents by′ (x .a) i
+          with-ready : ReadyOmit rule t parents by′ (x .a) i
           with-ready = rw by-is (record {
             rule-accepted = ready .rule-accepted;
             table-accepted = ready .table-accepted;
@@ -268,16 +253,20 @@ module _ (rule t parents : List ℕ) (by : Binders) (e i : ℕ) (ready : ReadyOm
                   (λ q. let z : v < by .depth = omega arith in subst P (same-below v z) (b z))
                   (eq-or-lt-of-le l)
 
+          pub body-call : {n : ℕ} → entryCount rule - e ≡ n → OmitCall rule t parents by′ (x .a) i n
+          body-call n-is = (omega (arith, body-later .0, body-later .1), with-ready)
+
           chains-with : chainsBelow rule t (set (by .entry) (by .depth) e) (suc (by .depth)) ≡ chainsWith (by .depth) (reachAt rule t (by .entry) (by .depth) e) chains
           unfolding chainsBelow
           chains-with = ap₂ (λ (f : ℕ) (K : Chains). chainsWith (by .depth) (reach (rows t) (overOf (entryAt rule f .b)) (entryAt rule f .c) (by .depth) K) K)
               (getD-set-same (by .entry) (by .depth) e 0 inside)
               (sym (chains-same rule t (by .entry) (set (by .entry) (by .depth) e) (by .depth) same-below))
 
-          pub omit-body : d ≡ false → (o : Reading) → o ≡ ofBool (omittedAt m rule t by′ (x .a) i) → o ≡ ofBool (omittedAt m rule t by e i)
+          pub omit-body : s ≡ true → {o : Bool} → o ≡ omittedAt m rule t by′ (x .a) i → o ≡ omittedAt m rule t by e i
           unfolding inner
-          omit-body h o o-is = side-true (all (lets-at (c .bound .depth)) (chainOf t c)) s s-is d d-is h inner o
-              (o-is ∙ ap (λ (z : Binders). ofBool (omittedAt m rule t z (x .a) i)) by-is
-              ∙ ap (λ (n : ℕ). ofBool (omittedIn m (formulaAt rule (x .a)) (rows t) n (chainsBelow rule t (set (by .entry) (by .depth) e) n) (rowAt t i))) (add-one (by .depth))
-              ∙ ap (λ (K : Chains). ofBool (omittedIn m (formulaAt rule (x .a)) (rows t) (suc (by .depth)) K (rowAt t i))) chains-with)
-              ∙ ap ofBool (sym both-tests)
+          omit-body h o-is =
+              o-is ∙ ap (λ (z : Binders). omittedAt m rule t z (x .a) i) by-is
+              ∙ ap (λ (n : ℕ). omittedIn m (formulaAt rule (x .a)) (rows t) n (chainsBelow rule t (set (by .entry) (by .depth) e) n) (rowAt t i)) (add-one (by .depth))
+              ∙ ap (λ (K : Chains). omittedIn m (formulaAt rule (x .a)) (rows t) (suc (by .depth)) K (rowAt t i)) chains-with
+              ∙ side-true (all (lets-at (c .bound .depth)) (chainOf t c)) inner (sym s-is ∙ h)
+              ∙ sym both-tests

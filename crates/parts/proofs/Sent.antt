@@ -20,7 +20,7 @@ use Rattle.logic.specs.Formulas.{Formula, formula}
 use Rattle.logic.specs.Parts.{reached, spare, ancestors, partBy, branchPart, fullPart, partOf, wordsOf}
 use Rattle.logic.proofs.Walks.{select-halves}
 use Rattle.parts.specs.Sending.{rowSent, rowsSent}
-use Rattle.parts.specs.Keeping.{stays, Marked}
+use Rattle.parts.specs.Keeping.{stays, Keeps}
 
 -- ---- how many
 pub sum-more : (f : ℕ → ℕ) (i n : ℕ) → n ≡ sumBelow f i → n + f i ≡ sumBelow f (i + 1)
@@ -150,7 +150,7 @@ part-is F m D = go (eqb m 1) (eqb m 2)
     go false true = ap by (fun-ext (λ r. sym (double (reached F D r))))
     go false false = refl
 
-module _ (rule t kept : List ℕ) (m : ℕ) (marked : Marked rule t kept m (rowCount t)) where
+module _ (rule t kept : List ℕ) (m : ℕ) (keeps : Keeps rule t m kept (rowCount t)) where
   abbrev stay : Row → Bool
   stay = stays m (formula rule) (rows t)
 
@@ -163,13 +163,13 @@ module _ (rule t kept : List ℕ) (m : ℕ) (marked : Marked rule t kept m (rowC
   same-from i zero h = refl
   same-from i (suc k) h =
       ap (λ (D : List Row). rowSent t i (getD kept i 0) ++ D) (same-from (suc i) k (omega arith))
-      ∙ one-row (stay (rowAt t i)) (getD kept i 0) (rowAt t i) (select stay (rowsFrom t (suc i) k)) (marked .holds i (omega arith))
+      ∙ one-row (stay (rowAt t i)) (getD kept i 0) (rowAt t i) (select stay (rowsFrom t (suc i) k)) (keeps .holds i (omega arith))
 
   pub sent-is : rowsSent t kept 0 (rowCount t) ≡ partOf (formula rule) m (rows t)
   sent-is = same-from 0 (rowCount t) (omega arith) ∙ sym (part-is (formula rule) m (rows t))
 
   pub count-is : sumBelow (λ j. getD kept j 0) (rowCount t) ≡ length (partOf (formula rule) m (rows t))
   count-is =
-      sum-same (λ j. getD kept j 0) (λ j. one (stay (rowAt t j))) (rowCount t) (marked .holds)
+      sum-same (λ j. getD kept j 0) (λ j. one (stay (rowAt t j))) (rowCount t) (keeps .holds)
       ∙ sum-length stay t (rowCount t)
       ∙ ap length (sym (part-is (formula rule) m (rows t)))

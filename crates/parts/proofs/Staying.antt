@@ -21,14 +21,10 @@ use Rattle.tables.proofs.Proper.{rows-proper}
 use Rattle.logic.specs.Formulas.{Formula, formula}
 use Rattle.logic.specs.Parts.{reached, spare, ancestors}
 use Rattle.logic.proofs.Ancestors.{stays-child, stays-root}
-use Rattle.logic.proofs.Contradiction.{no-contradiction}
-use Rattle.parts.specs.Codes.{ofBool, flipped}
 use Rattle.parts.specs.Reaching.{parentOf, noBinders, chainsBelow}
 use Rattle.parts.specs.Omitting.{omittedAt, ReadyOmit}
-use Rattle.parts.specs.Keeping.{OneDevice, numberOf, leftOut, passes, stays, Marked, ReadyRow, Keeps}
-use Rattle.parts.specs.declared.readings.Reading.{Reading}
+use Rattle.parts.specs.Keeping.{OneDevice, leftOut, passes, stays, ReadyRow}
 use Rattle.parts.specs.declared.chains.Binders.{Binders}
-use Rattle.parts.specs.declared.keeping.Kept.{Kept}
 use Rattle.parts.proofs.Parentage.{parent-le, parent-before, parent-is}
 
 -- ---- the code's ways
@@ -40,7 +36,7 @@ module _ (parents kept : List ℕ) (i : ℕ) where
   other-parent h = sym (ap (λ (b : Bool). cond b false (eqb (getD kept (getD parents i 0) 0) 0)) (ne-eqb (getD parents i 0) i h))
 
 -- ---- one row
-module _ (rule t parents kept : List ℕ) (m i : ℕ) (ready : ReadyRow rule t parents kept m i) where
+module _ {rule t parents kept : List ℕ} {m i : ℕ} (ready : ReadyRow rule t parents kept m i) where
   abbrev F : Formula
   F = formula rule
 
@@ -63,7 +59,7 @@ module _ (rule t parents kept : List ℕ) (m i : ℕ) (ready : ReadyRow rule t p
   parents-inside = omega (arith, few, ready .row-inside, ready .has-parents .sized)
 
   pub parent-inside : getD parents i 0 < length kept
-  parent-inside = omega (arith, few, ready .row-inside, ready .marked .sized, parent-at, parent-le t (ok .accepted) i (ready .row-inside))
+  parent-inside = omega (arith, few, ready .row-inside, ready .kept-before .sized, parent-at, parent-le t (ok .accepted) i (ready .row-inside))
 
   -- without a parent it is a root
   is-root : parentOf t i ≡ i → root (rowAt t i) ≡ true
@@ -106,10 +102,10 @@ module _ (rule t parents kept : List ℕ) (m i : ℕ) (ready : ReadyRow rule t p
   parent-byte : (parentOf t i ≡ i → ⊥) → eqb (getD kept (getD parents i 0) 0) 0 ≡ not (stay (parentOf t i))
   parent-byte n =
       ap (λ (p : ℕ). eqb (getD kept p 0) 0) parent-at
-      ∙ ap (λ (x : ℕ). eqb x 0) (ready .marked .holds (parentOf t i) (parent-before t (ok .accepted) i (ready .row-inside) n))
+      ∙ ap (λ (x : ℕ). eqb x 0) (ready .kept-before .holds (parentOf t i) (parent-before t (ok .accepted) i (ready .row-inside) n))
       ∙ byte-zero (stay (parentOf t i))
 
-  module _ (l : Bool) (l-is : l ≡ leftOut parents kept i) where
+  module _ {l : Bool} (l-is : l ≡ leftOut parents kept i) where
     pub parent-lost : l ≡ true → _≡_ {A = ℕ} 0 (one (stay i))
     parent-lost h = either (eqb (getD parents i 0) i)
         (λ e. absurd (true≢false (sym h ∙ l-is ∙ ap (λ (b : Bool). cond b false (eqb (getD kept (getD parents i 0) 0) 0)) e)))
@@ -136,25 +132,27 @@ module _ (rule t parents kept : List ℕ) (m i : ℕ) (ready : ReadyRow rule t p
     unfolding own
     stays-all h e = sym (ap one (parent-kept h ∙ ap (λ (b : Bool). b || passes m F D (rowAt t i)) (eq-eqb m 1 e)))
 
-    module _ (by : Binders) (by-is : by ≡ noBinders) where
+    module _ {by : Binders} (by-is : by ≡ noBinders) where
       omitted-is : omittedAt m rule t by 0 i ≡ cond (eqb m 2) (not (reached F D (rowAt t i))) (spare F D (rowAt t i))
       unfolding reached spare chainsBelow
       omitted-is = ap (λ (z : Binders). omittedAt m rule t z 0 i) by-is
 
-      pub stays-test : l ≡ false → (m ≡ 1 → ⊥) → (x y : Reading) (n : ℕ) → x ≡ ofBool (omittedAt m rule t by 0 i) → y ≡ flipped x → n ≡ numberOf y → n ≡ one (stay i)
-      unfolding own
-      stays-test h e x y n x-is y-is n-is =
-          n-is ∙ ap numberOf (y-is ∙ ap flipped (x-is ∙ ap ofBool omitted-is))
-          ∙ number (cond (eqb m 2) (not (reached F D (rowAt t i))) (spare F D (rowAt t i)))
-          ∙ sym (ap one (parent-kept h ∙ ap (λ (b : Bool). b || passes m F D (rowAt t i)) (ne-eqb m 1 e)))
-        where
-          number : (b : Bool) → numberOf (flipped (ofBool b)) ≡ one (not b)
-          number true = refl
-          number false = refl
+      module _ (h : l ≡ false) (e : m ≡ 1 → ⊥) {x : Bool} (x-is : x ≡ omittedAt m rule t by 0 i) where
+        passes-is : stay i ≡ not x
+        unfolding own
+        passes-is =
+            parent-kept h ∙ ap (λ (b : Bool). b || passes m F D (rowAt t i)) (ne-eqb m 1 e)
+            ∙ ap not (sym (x-is ∙ omitted-is))
 
-  pub start-ready : (by : Binders) → by ≡ noBinders → ReadyOmit rule t parents by 0 i
+        pub stays-omitted : x ≡ true → _≡_ {A = ℕ} 0 (one (stay i))
+        stays-omitted f = sym (ap one (passes-is ∙ ap not f))
+
+        pub stays-kept : x ≡ false → _≡_ {A = ℕ} 1 (one (stay i))
+        stays-kept f = sym (ap one (passes-is ∙ ap not f))
+
+  pub start-ready : {by : Binders} → by ≡ noBinders → ReadyOmit rule t parents by 0 i
   unfolding aroundFrom
-  start-ready by by-is = subst (λ (z : Binders). ReadyOmit rule t parents z 0 i) (sym by-is) (record {
+  start-ready by-is = subst (λ (z : Binders). ReadyOmit rule t parents z 0 i) (sym by-is) (record {
     rule-accepted = ready .ready .rule-accepted;
     table-accepted = ok .accepted;
     has-parents = ready .has-parents;
@@ -164,14 +162,3 @@ module _ (rule t parents kept : List ℕ) (m i : ℕ) (ready : ReadyRow rule t p
     depth-is = refl;
     row-inside = ready .row-inside;
   })
-
--- ---- all rows
-pub never-two : (b : Bool) (x : ℕ) → x ≡ one b → x ≡ 2 → ⊥
-never-two true x e h = omega arith
-never-two false x e h = omega arith
-
-pub all-kept : (rule t : List ℕ) (m n : ℕ) (k : Kept) → n ≡ rowCount t → k .contradicted ≡ false → Marked rule t (k .row) m n → Keeps rule t m k
-all-kept rule t m n k n-is e h = record {
-  contradicted = e ∙ sym (ap (λ (b : Bool). eqb m 3 && b) (no-contradiction (formula rule) (rows t)) ∙ and-false (eqb m 3));
-  marked = subst (λ (j : ℕ). Marked rule t (k .row) m j) n-is h;
-}

@@ -8,12 +8,11 @@ use Rattle.tables.specs.Words.{rowAt, rows, entryAt}
 use Rattle.tables.specs.Tables.{root, isParent}
 use Rattle.tables.specs.declared.Entry.{Entry}
 use Rattle.logic.specs.Formulas.{operandOf, formulaAt}
-use Rattle.logic.specs.Verdict.{Place, bind, named}
+use Rattle.logic.specs.Verdict.{Place, named}
 use Rattle.logic.specs.Reading as meaning
+use Rattle.logic.specs.Elsewhere.{bodyReading}
 use Rattle.engine.specs.Ready.{ReadyRows, meant, rangedFrom, quantifierOf, comparisonOf}
 use Rattle.engine.specs.declared.bindings.Bindings.{Bindings}
-use Rattle.parts.specs.Codes.{codeOf}
-use Rattle.parts.specs.declared.readings.Reading.{Reading}
 
 -- ---- what a quantifier ranges over
 -- the place that b of a quantifier names: 0 for roots or elsewhere, else 1 + the parent's number
@@ -35,18 +34,18 @@ abbrev pub comparedAt : List ℕ → Bindings → Entry → meaning.Reading
 comparedAt t b e =
     meaning.compareReading (comparisonOf (e .kind)) (meaning.valueRead (meant t b (e .a))) (meaning.operandRead (meant t b) (operandOf (e .b) (e .c)))
 
--- an entry's reading
-abbrev pub readAt : List ℕ → List ℕ → Bindings → ℕ → Reading
-readAt rule t b e = codeOf (meaning.reading (formulaAt rule e) (rows t) (b .depth) (meant t b))
+-- an entry reads the value w
+abbrev pub readsAt : List ℕ → List ℕ → Bindings → ℕ → Bool → Bool
+readsAt rule t b e w = meaning.reads w (meaning.reading (formulaAt rule e) (rows t) (b .depth) (meant t b))
 
 -- ---- a quantifier's entry, over k rows from row i on
 -- its body's reading with its own variable at a place
 abbrev pub bodyAt : List ℕ → List ℕ → Bindings → ℕ → Place → meaning.Reading
-bodyAt rule t b e p = meaning.reading (formulaAt rule (entryAt rule e .a)) (rows t) (suc (b .depth)) (bind (b .depth) p (meant t b))
+bodyAt rule t b e = bodyReading (formulaAt rule (entryAt rule e .a)) (rows t) (b .depth) (meant t b)
 
--- the bodies of those that it ranges over, together
-abbrev pub sweepAt : List ℕ → List ℕ → Bindings → ℕ → ℕ → ℕ → Reading
-sweepAt rule t b e i k = codeOf (meaning.underBound (quantifierOf (entryAt rule e .kind)) (bodyAt rule t b e) (rangedFrom rule t b e i k))
+-- the bodies of those that it ranges over together read the value w
+abbrev pub sweepsAt : List ℕ → List ℕ → Bindings → ℕ → Bool → ℕ → ℕ → Bool
+sweepsAt rule t b e w i k = meaning.reads w (meaning.underBound (quantifierOf (entryAt rule e .kind)) (bodyAt rule t b e) (rangedFrom rule t b e i k))
 
 -- it ranges over roots or under a bound row
 pub record ReadySweep (rule t : List ℕ) (b : Bindings) (e i k : ℕ) : Type 0 where

@@ -12,11 +12,8 @@ use Rattle.tables.specs.Rules.{one, acceptedRule}
 use Rattle.tables.specs.Tables.{acceptedTable}
 use Rattle.tables.specs.declared.Row.{Row}
 use Rattle.logic.specs.Formulas.{Formula, formula}
-use Rattle.logic.specs.Parts.{reached, spare, ancestors, contradiction}
+use Rattle.logic.specs.Parts.{reached, spare, ancestors}
 use Rattle.parts.specs.Reaching.{Holds, Parents}
-use Rattle.parts.specs.declared.readings.Reading.{Reading}
-use Rattle.parts.specs.declared.readings.Reading.the-variants.{True, False, Open, Both}
-use Rattle.parts.specs.declared.keeping.Kept.{Kept}
 
 -- an accepted table of one device
 pub record OneDevice (t : List ℕ) : Type 0 where
@@ -28,12 +25,6 @@ pub record ReadyPart (rule t : List ℕ) : Type 0 where
   pub device : OneDevice t
 
 -- ---- one row
-abbrev pub numberOf : Reading → ℕ
-numberOf True = 1
-numberOf False = 0
-numberOf Open = 0
-numberOf Both = 2
-
 -- its parent is another row, whose byte is 0
 abbrev pub leftOut : List ℕ → List ℕ → ℕ → Bool
 leftOut parents kept i = cond (eqb (getD parents i 0) i) false (eqb (getD kept (getD parents i 0) 0) 0)
@@ -46,17 +37,12 @@ passes m F D r = not (cond (eqb m 2) (not (reached F D r)) (spare F D r))
 unfoldable pub stays : ℕ → Formula → List Row → Row → Bool
 stays m F D r = cond (eqb m 1) true (passes m F D r && all (passes m F D) (ancestors D r))
 
--- the bytes of the first i rows
-abbrev pub Marked : List ℕ → List ℕ → List ℕ → ℕ → ℕ → Type 0
-Marked rule t kept m i = Holds (λ j. one (stays m (formula rule) (rows t) (rowAt t j))) kept i
+-- the first i bytes are 1 where the row stays, else 0
+abbrev pub Keeps : List ℕ → List ℕ → ℕ → List ℕ → ℕ → Type 0
+Keeps rule t m kept i = Holds (λ j. one (stays m (formula rule) (rows t) (rowAt t j))) kept i
 
 pub record ReadyRow (rule t parents kept : List ℕ) (m i : ℕ) : Type 0 where
   pub ready : ReadyPart rule t
   pub has-parents : Parents t parents
-  pub marked : Marked rule t kept m i
+  pub kept-before : Keeps rule t m kept i
   pub row-inside : i < rowCount t
-
--- ---- all rows
-pub record Keeps (rule t : List ℕ) (m : ℕ) (k : Kept) : Type 0 where
-  pub contradicted : k .contradicted ≡ (eqb m 3 && contradiction (formula rule) (rows t))
-  pub marked : Marked rule t (k .row) m (rowCount t)

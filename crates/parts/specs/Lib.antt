@@ -1,4 +1,3 @@
-pub mod Codes
 pub mod Device
 pub mod Reaching
 pub mod Omitting

@@ -74,17 +74,7 @@ fn choose(rule: &[u32], table: &[u32], mode: u32, room: usize) -> Choice
         };
     }
     let kept = kept_rows(rule, table, mode);
-    if kept.contradicted {
-        return Choice {
-            answer: Answer::Refused {
-                number: 15,
-                place: 0,
-            },
-            row: [0; 1024],
-        };
-    }
-    let bytes = kept.row;
-    let count = count_kept(&bytes, row_count(table));
+    let count = count_kept(&kept, row_count(table));
     if room < 5 * count {
         return Choice {
             answer: Answer::Refused {
@@ -96,7 +86,7 @@ fn choose(rule: &[u32], table: &[u32], mode: u32, room: usize) -> Choice
     }
     Choice {
         answer: Answer::Done(count),
-        row: bytes,
+        row: kept,
     }
 }
 

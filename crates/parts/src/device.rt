@@ -1,14 +1,8 @@
-// How an entry reads on one device's rows, with each variable bound to one of them or elsewhere.
+// What an entry reads on one device's rows, with each variable bound to one of them or elsewhere. The question is always whether it reads
+// a wanted value, true or false: open is neither.
 use super::ranges::next_ranged;
 use super::ranges::place_of;
 use super::ranges::place_under;
-use super::readings::Reading;
-use super::readings::decides;
-use super::readings::flip;
-use super::readings::join;
-use super::readings::of_bool;
-use super::readings::over;
-use super::readings::settles;
 use super::words::entry_at;
 use super::words::row_at;
 use super::words::row_count;
@@ -17,9 +11,9 @@ use tables::Entry;
 ghost use mathlib.Core.Path.{_≡_};
 ghost use Prim.Native.Nat.{_+_, _<_};
 ghost use Rattle.logic.specs.Verdict.{compare};
+ghost use Rattle.logic.specs.Reading as meaning;
 ghost use Rattle.engine.specs.Ready.{Placed, comparisonOf, Ready};
-ghost use Rattle.parts.specs.Codes.{codeOf};
-ghost use Rattle.parts.specs.Device.{comparedAt, readAt, sweepAt, ReadySweep};
+ghost use Rattle.parts.specs.Device.{comparedAt, readsAt, sweepsAt, ReadySweep};
 ghost use Rattle.parts.specs.Reaching.{Ends};
 
 // A comparison of kind 7, 8 or 9.
@@ -36,99 +30,110 @@ fn compare_values(kind: u32, x: u32, y: u32) -> bool
 }
 
 // A comparison that touches an elsewhere variable is open.
-fn compared(table: &[u32], b: Bindings, e: Entry) -> Reading
+fn compared(table: &[u32], b: Bindings, e: Entry, wanted: bool) -> bool
     requires { ⌜ Placed (now table) b ⌝ }
     requires { ⌜ e .a < 8 ⌝ }
     requires { ⌜ (e .b ≡ 0 → e .c < 8) ⌝ }
-    ensures { λ r. ⌜ r ≡ codeOf (comparedAt (now (table .entry)) b e) ⌝ }
+    ensures { λ r. ⌜ r ≡ meaning.reads wanted (comparedAt (now (table .entry)) b e) ⌝ }
 {
     let p = place_of(b, e.a as usize);
     if p == 0 {
-        return Reading::Open;
+        return false;
     }
     let left = row_at(table, p - 1).value;
     if e.b != 0 {
-        return of_bool(compare_values(e.kind, left, e.c));
+        return compare_values(e.kind, left, e.c) == wanted;
     }
     let q = place_of(b, e.c as usize);
     if q == 0 {
-        return Reading::Open;
+        return false;
     }
-    of_bool(compare_values(e.kind, left, row_at(table, q - 1).value))
+    compare_values(e.kind, left, row_at(table, q - 1).value) == wanted
 }
 
-// What an entry reads.
-pub(crate) fn reads(rule: &[u32], table: &[u32], ends: &[u16], b: Bindings, entry: usize) -> Reading
+// Whether an entry reads the wanted value.
+pub(crate) fn reads(
+    rule: &[u32],
+    table: &[u32],
+    ends: &[u16],
+    b: Bindings,
+    entry: usize,
+    wanted: bool,
+) -> bool
     requires { ⌜ Ready (now rule) (now table) b entry ⌝ }
     requires { ⌜ Ends (now table) (now ends) ⌝ }
-    ensures { λ r. ⌜ r ≡ readAt (now (rule .entry)) (now (table .entry)) b entry ⌝ }
+    ensures { λ r. ⌜ r ≡ readsAt (now (rule .entry)) (now (table .entry)) b entry wanted ⌝ }
 {
     let e = entry_at(rule, entry);
     let a = e.a as usize;
     if e.kind == 1 {
-        return flip(reads(rule, table, ends, b, a));
+        return reads(rule, table, ends, b, a, !wanted);
     }
-    let under = e.b as usize;
     if e.kind < 5 {
-        let left = reads(rule, table, ends, b, a);
-        if decides(e.kind, left) {
-            return join(e.kind, left, Reading::Open);
+        let both = wanted == (e.kind == 2);
+        let left = reads(rule, table, ends, b, a, wanted == (e.kind < 4));
+        if left == both {
+            return reads(rule, table, ends, b, e.b as usize, wanted);
         }
-        return join(e.kind, left, reads(rule, table, ends, b, under));
+        return left;
     }
     if 6 < e.kind {
-        return compared(table, b, e);
+        return compared(table, b, e, wanted);
     }
-    if under != 0 {
-        let place = place_of(b, under - 1);
-        if place == 0 {
-            let body = reads(rule, table, ends, b.bind(0), a);
-            return over(e.kind, Reading::Open, body);
-        }
+    let place = place_under(b, e.b as usize);
+    if place != 0 {
         let end = ends[place - 1] as usize;
-        return sweep(rule, table, ends, b, entry, place, end - place);
+        return sweep(rule, table, ends, b, entry, wanted, place, end - place);
     }
-    let elsewhere = reads(rule, table, ends, b.bind(0), a);
-    // What settles it elsewhere does so for each own root.
-    if decides(3, settles(e.kind, elsewhere)) {
-        return elsewhere;
+    // Its rows may be elsewhere: it is settled by its body with the variable elsewhere, and decided by an own root, each alone.
+    if wanted == (e.kind == 5) {
+        return reads(rule, table, ends, b.bind(0), a, wanted);
     }
-    let own = sweep(rule, table, ends, b, entry, 0, row_count(table));
-    over(e.kind, own, elsewhere)
+    if e.b != 0 {
+        return false;
+    }
+    sweep(rule, table, ends, b, entry, wanted, 0, row_count(table))
 }
 
-// The bodies of those of `rows` rows from `row` on that a quantifier ranges over, together, by halves of those from the first one on.
+// Whether the bodies of those of `rows` rows from `row` on that a quantifier ranges over together read the wanted value, by halves of those
+// from the first one on.
 fn sweep(
     rule: &[u32],
     table: &[u32],
     ends: &[u16],
     b: Bindings,
     entry: usize,
+    wanted: bool,
     row: usize,
     rows: usize,
-) -> Reading
+) -> bool
     requires { ⌜ ReadySweep (now rule) (now table) b entry row rows ⌝ }
     requires { ⌜ Ends (now table) (now ends) ⌝ }
-    ensures { λ r. ⌜ r ≡ sweepAt (now (rule .entry)) (now (table .entry)) b entry row rows ⌝ }
+    ensures { λ r. ⌜ r ≡ sweepsAt (now (rule .entry)) (now (table .entry)) b entry wanted row rows ⌝ }
 {
     let e = entry_at(rule, entry);
+    let all = wanted == (e.kind == 5);
     let first = next_ranged(table, place_under(b, e.b as usize), e.c, row, rows);
     let left = row + rows - first;
     if left == 0 {
-        return of_bool(e.kind == 5);
+        return all;
     }
     if 1 < left {
-        let connective = e.kind - 3;
         let half = left / 2;
-        let near = sweep(rule, table, ends, b, entry, first, half);
-        if decides(connective, near) {
-            return near;
+        let near = sweep(rule, table, ends, b, entry, wanted, first, half);
+        if near == all {
+            return sweep(
+                rule,
+                table,
+                ends,
+                b,
+                entry,
+                wanted,
+                first + half,
+                left - half,
+            );
         }
-        return join(
-            connective,
-            near,
-            sweep(rule, table, ends, b, entry, first + half, left - half),
-        );
+        return near;
     }
-    reads(rule, table, ends, b.bind(first + 1), e.a as usize)
+    reads(rule, table, ends, b.bind(first + 1), e.a as usize, wanted)
 }

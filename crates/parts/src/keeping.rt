@@ -3,29 +3,15 @@ use super::chains::Binders;
 use super::omitting::omits;
 use super::parents::find_ends;
 use super::parents::find_parents;
-use super::readings::Reading;
-use super::readings::flip;
 use super::words::row_count;
 ghost use mathlib.Core.Path.{_≡_};
 ghost use Prim.Native.Nat.{_<_};
 ghost use lib.ListN.{length, getD};
-ghost use Rattle.tables.specs.Words.{rowAt, rows};
+ghost use Rattle.tables.specs.Words.{rowAt, rowCount, rows};
 ghost use Rattle.tables.specs.Rules.{one};
 ghost use Rattle.logic.specs.Formulas.{formula};
 ghost use Rattle.parts.specs.Reaching.{Ends};
-ghost use Rattle.parts.specs.Keeping.{numberOf, leftOut, stays, ReadyPart, ReadyRow, Keeps};
-
-// A byte for a row: 1 stays, 0 does not; 2 is refusal 15.
-fn number_of(x: Reading) -> u8
-    ensures { λ r. ⌜ r ≡ numberOf x ⌝ }
-{
-    match x {
-        Reading::True => 1,
-        Reading::False => 0,
-        Reading::Open => 0,
-        Reading::Both => 2,
-    }
-}
+ghost use Rattle.parts.specs.Keeping.{leftOut, stays, ReadyPart, ReadyRow, Keeps};
 
 // Whether a row has a parent, and that does not stay.
 fn parent_left_out(parents: &[u16], kept: &[u8], row: usize) -> bool
@@ -40,7 +26,7 @@ fn parent_left_out(parents: &[u16], kept: &[u8], row: usize) -> bool
     kept[parent] == 0
 }
 
-// Whether a row stays: it passes the mode's test, and it is a root or its parent stays.
+// 1 if a row stays, since it passes the mode's test and is a root or its parent stays; else 0.
 fn row_stays(
     rule: &[u32],
     table: &[u32],
@@ -60,18 +46,16 @@ fn row_stays(
     if mode == 1 {
         return 1;
     }
-    number_of(flip(omits(rule, table, parents, ends, Binders::none(), 0, row, mode)))
+    if omits(rule, table, parents, ends, Binders::none(), 0, row, mode) {
+        return 0;
+    }
+    1
 }
 
-// A byte for each row, and whether refusal 15 was met.
-pub struct Kept {
-    pub contradicted: bool,
-    pub row: [u8; 1024],
-}
-
-pub(crate) fn kept_rows(rule: &[u32], table: &[u32], mode: u32) -> Kept
+// That byte of each row.
+pub(crate) fn kept_rows(rule: &[u32], table: &[u32], mode: u32) -> [u8; 1024]
     requires { ⌜ ReadyPart (now rule) (now table) ⌝ }
-    ensures { λ r. ⌜ Keeps (now (rule .entry)) (now (table .entry)) mode r ⌝ }
+    ensures { λ r. ⌜ Keeps (now (rule .entry)) (now (table .entry)) mode r (rowCount (now (table .entry))) ⌝ }
 {
     let mut parents = [0u16; 1024];
     find_parents(table, &mut parents);
@@ -81,18 +65,8 @@ pub(crate) fn kept_rows(rule: &[u32], table: &[u32], mode: u32) -> Kept
     let mut kept = [0u8; 1024];
     let mut i = 0;
     while i < n {
-        let x = row_stays(rule, table, &parents, &ends, &kept, mode, i);
-        if x == 2 {
-            return Kept {
-                contradicted: true,
-                row: kept,
-            };
-        }
-        kept[i] = x;
+        kept[i] = row_stays(rule, table, &parents, &ends, &kept, mode, i);
         i += 1;
     }
-    Kept {
-        contradicted: false,
-        row: kept,
-    }
+    kept
 }

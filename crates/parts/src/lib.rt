@@ -6,7 +6,6 @@ mod keeping;
 mod omitting;
 mod parents;
 mod ranges;
-mod readings;
 mod sending;
 mod words;
 

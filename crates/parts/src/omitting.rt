@@ -3,16 +3,12 @@ use super::chains::Binders;
 use super::chains::Chain;
 use super::chains::climb;
 use super::device::reads;
-use super::readings::Reading;
-use super::readings::decides;
-use super::readings::settles;
 use super::words::entry_at;
 ghost use mathlib.Core.Path.{_≡_};
 ghost use Rattle.base.specs.Lists.{all};
 ghost use Rattle.tables.specs.Words.{rows};
 ghost use Rattle.logic.specs.Formulas.{formulaAt};
 ghost use Rattle.engine.specs.Ready.{quantifierOf};
-ghost use Rattle.parts.specs.Codes.{ofBool};
 ghost use Rattle.parts.specs.Reaching.{chainOf, Ends};
 ghost use Rattle.parts.specs.Omitting.{letsOut, ReadyBody, omittedAt, ReadyOmit};
 
@@ -25,19 +21,19 @@ fn lets_out(
     kind: u32,
     body: usize,
     mode: u32,
-) -> Reading
+) -> bool
     requires { ⌜ ReadyBody (now rule) (now table) chain kind body ⌝ }
     requires { ⌜ Ends (now table) (now ends) ⌝ }
-    ensures { λ r. ⌜ r ≡ ofBool (all (letsOut mode (quantifierOf kind) (formulaAt (now (rule .entry)) body) (rows (now (table .entry))) (chain .bound .depth)) (chainOf (now (table .entry)) chain)) ⌝ }
+    ensures { λ r. ⌜ r ≡ all (letsOut mode (quantifierOf kind) (formulaAt (now (rule .entry)) body) (rows (now (table .entry))) (chain .bound .depth)) (chainOf (now (table .entry)) chain) ⌝ }
 {
     if chain.found {
         if mode == 2 {
-            return Reading::False;
+            return false;
         }
         let b = chain.bound;
-        return settles(kind, reads(rule, table, ends, b, body));
+        return reads(rule, table, ends, b, body, kind == 5);
     }
-    Reading::True
+    true
 }
 
 // Whether all quantifiers of an entry let a row be left out.
@@ -50,10 +46,10 @@ pub(crate) fn omits(
     entry: usize,
     row: usize,
     mode: u32,
-) -> Reading
+) -> bool
     requires { ⌜ ReadyOmit (now rule) (now table) (now parents) by entry row ⌝ }
     requires { ⌜ Ends (now table) (now ends) ⌝ }
-    ensures { λ r. ⌜ r ≡ ofBool (omittedAt mode (now (rule .entry)) (now (table .entry)) by entry row) ⌝ }
+    ensures { λ r. ⌜ r ≡ omittedAt mode (now (rule .entry)) (now (table .entry)) by entry row ⌝ }
 {
     let e = entry_at(rule, entry);
     let a = e.a as usize;
@@ -61,19 +57,17 @@ pub(crate) fn omits(
         return omits(rule, table, parents, ends, by, a, row, mode);
     }
     if e.kind < 5 {
-        let left = omits(rule, table, parents, ends, by, a, row, mode);
-        if decides(2, left) {
-            return left;
+        if omits(rule, table, parents, ends, by, a, row, mode) {
+            return omits(rule, table, parents, ends, by, e.b as usize, row, mode);
         }
-        return omits(rule, table, parents, ends, by, e.b as usize, row, mode);
+        return false;
     }
     if 6 < e.kind {
-        return Reading::True;
+        return true;
     }
     let chain = climb(rule, table, parents, by, by.depth, entry, row);
-    let own = lets_out(rule, table, ends, chain, e.kind, a, mode);
-    if decides(2, own) {
-        return own;
+    if lets_out(rule, table, ends, chain, e.kind, a, mode) {
+        return omits(rule, table, parents, ends, by.with(entry), a, row, mode);
     }
-    omits(rule, table, parents, ends, by.with(entry), a, row, mode)
+    false
 }

@@ -1,5 +1,5 @@
--- 01's worked pools (a) to (l), the reductions that lose a verdict, and a table on which the published meaning is not that of
--- rows: the rows of one table, with one test over all of them, proved in proofs/Cases. Assumes nothing.
+-- 01's worked pools (a) to (l), the reductions that lose a verdict, readings over roots, and a table on which the published meaning is not
+-- that of rows: the rows of one table, with one test over all of them, proved in proofs/Cases. Assumes nothing.
 use Prim.Native.Nat.{ℕ, zero, suc, _+_}
 use mathlib.Core.Path.{_≡_}
 use mathlib.Core.Bool.{Bool, true, false, not, cond, _&&_}
@@ -79,6 +79,10 @@ everyHasOne = entry 5 1 0 1 ++ entry 6 2 1 2 ++ entry 7 1 1 1
 -- every c has under it only a's that have some b equal to 1 (name 9 is c)
 abbrev pub everyBelowHasOne : List ℕ
 everyBelowHasOne = entry 5 1 0 9 ++ entry 5 2 1 1 ++ entry 6 3 2 2 ++ entry 7 2 1 1
+
+-- kind 5 or 6 over a, then for every b: a is 5
+abbrev pub forEveryB : ℕ → List ℕ
+forEveryB kind = entry kind 1 0 1 ++ entry 5 2 0 2 ++ entry 7 0 1 5
 
 -- no router (name 1) has the same address (name 3) for more than one interface (name 2)
 abbrev pub ruleAddresses : List ℕ
@@ -203,6 +207,12 @@ cases =
     ∷ spares ruleA D1 (key 1 1 ++ key 1 3)
     ∷ judged ruleA D1 true (key 1 1 ++ key 1 2)
     ∷ judged ruleA (row 1 1 0 1 11) false (key 1 1)
+    -- a reading over roots: what is false elsewhere is false for each own b, and stays open without one
+    ∷ sends (forEveryB 6) 3 (row 1 1 0 1 6) (row 1 1 0 1 6)
+    ∷ sends (forEveryB 6) 3 (row 1 1 0 1 6 ++ row 1 2 0 2 9) (row 1 2 0 2 9)
+    -- what is true elsewhere is true with an own b and without one
+    ∷ sends (forEveryB 5) 3 (row 1 1 0 1 5) []
+    ∷ sends (forEveryB 5) 3 (row 1 1 0 1 5 ++ row 1 2 0 2 9) (row 1 2 0 2 9)
     -- paths of two pairs
     ∷ judged ruleAddresses (router 77) false (key 1 1 ++ key 1 2 ++ key 1 3 ++ key 1 4 ++ key 1 5)
     ∷ judged ruleAddresses (router 78) true (key 1 1 ++ key 1 2 ++ key 1 3 ++ key 1 4 ++ key 1 5)

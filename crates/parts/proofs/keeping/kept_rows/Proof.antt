@@ -1,21 +1,18 @@
--- `parts::keeping::kept_rows` meets its contract. Assumes nothing.
-use Rattle.tables.specs.Words.{rowAt, rows}
-use Rattle.logic.specs.Formulas.{formula}
-use Rattle.parts.specs.Keeping.{stays, Marked}
+-- `parts::keeping::kept_rows` meets its contract. The loop's invariant: the bytes of the rows passed say which of them stay. Assumes nothing.
 use Prim.Native.Nat.{_-_, _≤_}
-use mathlib.Core.Path.{refl, sym}
+use mathlib.Core.Path.{refl, sym, subst}
 use native.Mathlib.Omega.{arith}
 use borrow.Author.Needs.{needs}
 use denote.Ref.{now}
 use Rattle.tables.proofs.Accepted.{few-rows}
+use Rattle.parts.specs.Keeping.{Keeps}
 use Rattle.parts.proofs.Seeking.{fill-begin, fill-more}
-use Rattle.parts.proofs.Staying.{never-two, all-kept}
 use Rattle.parts.proofs.keeping.kept_rows.Statement.{statement}
 use Rattle.parts.proofs.keeping.kept_rows.Tie as tie
 
 pub kept-rows-spec : {M : Type 1} → statement M
 kept-rows-spec = tie.close (tie.spec
-    (λ rule table mode parents ends n kept₀ i₀ kept i. Marked rule table kept mode i × (i ≤ n))
+    (λ rule table mode parents ends n kept₀ i₀ kept i. Keeps rule table mode kept i × (i ≤ n))
     (λ rule table mode parents ends n kept₀ i₀ kept i. n - i)
     (λ c. search needs)
     (λ c κs. let s = c .before .before .before in (s .pre .device, refl))
@@ -27,10 +24,25 @@ kept-rows-spec = tie.close (tie.spec
     (λ c. sym (c .before .before .before .before .before .before .before .before .before .find-parents .ensures .sized))
     (λ c. sym (c .before .before .before .before .before .before .find-ends .ensures .sized))
     (λ c. sym (c .before .before .before .before .loop .inv .0 .sized))
-    (λ c κs. let s = c .before .before .before .before .before .before .before .before .before .before .before .before .before .before .before in (record { ready = s .pre; has-parents = c .before .before .before .before .before .before .before .before .before .before .before .find-parents .ensures; marked = c .before .before .before .before .loop .inv .0; row-inside = omega (arith, c .before .before .before .loop-test .taken, c .before .before .before .before .before .row-count .ensures) }, c .before .before .before .before .before .before .before .find-ends .ensures))
-    (λ c. let s = c .before .before .before .before .before .before .before .before .before .before .before .before .before .before .before .before .before in absurd (never-two (stays (s .args .mode) (formula (now (s .args .rule))) (rows (now (s .args .table))) (rowAt (now (s .args .table)) (c .before .before .before .before .before .before .loop .i))) _ (c .before .row-stays .ensures) (c .if1 .taken)))
-    (λ c. let s = c .before .before .before .before .before .before .before .before .before .before .before .before .before .before .before .before .before in omega (arith, c .before .before .before .before .before .loop-test .taken, c .before .before .before .before .before .before .before .row-count .ensures, few-rows (now (s .args .table)) (s .pre .device .accepted), c .before .before .before .before .before .before .loop .inv .0 .sized))
-    (λ c. let s = c .before .before .before .before .before .before .before .before .before .before .before .before .before .before .before .before .before in omega (arith, c .before .before .before .before .before .loop-test .taken, c .before .before .before .before .before .before .before .row-count .ensures, few-rows (now (s .args .table)) (s .pre .device .accepted)))
+    (λ c κs. let s = c .before .before .before .before .before .before .before .before .before .before .before .before .before .before .before in (
+      record {
+        ready = s .pre;
+        has-parents = c .before .before .before .before .before .before .before .before .before .before .before .find-parents .ensures;
+        kept-before = c .before .before .before .before .loop .inv .0;
+        row-inside = omega (arith, c .before .before .before .loop-test .taken, c .before .before .before .before .before .row-count .ensures);
+      },
+      c .before .before .before .before .before .before .before .find-ends .ensures,
+    ))
+    (λ c. let s = c .before .before .before .before .before .before .before .before .before .before .before .before .before .before .before .before in
+    omega (arith, c .before .before .before .before .loop-test .taken, c .before .before .before .before .before .before .row-count .ensures, few-rows (now (s .args .table)) (s .pre .device .accepted), c .before .before .before .before .before .loop .inv .0 .sized))
+    (λ c. let s = c .before .before .before .before .before .before .before .before .before .before .before .before .before .before .before .before in omega (arith, c .before .before .before .before .loop-test .taken, c .before .before .before .before .before .before .row-count .ensures, few-rows (now (s .args .table)) (s .pre .device .accepted)))
     (λ c. omega arith)
-    (λ c. let s = c .before .before .before .before .before .before .before .before .before .before .before .before .before .before .before .before .before in (fill-more _ _ _ _ (c .before .before .before .before .before .before .loop .inv .0) (omega (arith, c .before .before .before .before .before .loop-test .taken, c .before .before .before .before .before .before .before .row-count .ensures, few-rows (now (s .args .table)) (s .pre .device .accepted))) (c .before .row-stays .ensures), omega arith))
-    (λ c. let s = c .before .before .before .before .before .before .before .before .before .before .before .before in all-kept (now (s .args .rule)) (now (s .args .table)) (s .args .mode) _ _ (omega (arith, c .before .loop .inv .1, c .loop-test .left, c .before .before .row-count .ensures)) refl (c .before .loop .inv .0)))
+    (λ c. let s = c .before .before .before .before .before .before .before .before .before .before .before .before .before .before .before .before in (
+      fill-more _ _ _ _ (c .before .before .before .before .before .loop .inv .0)
+          (omega (arith, c .before .before .before .before .loop-test .taken, c .before .before .before .before .before .before .row-count .ensures, few-rows (now (s .args .table)) (s .pre .device .accepted)))
+          (c .row-stays .ensures),
+      omega arith,
+    ))
+    (λ c. let s = c .before .before .before .before .before .before .before .before .before .before .before .before in
+    subst (Keeps (now (s .args .rule)) (now (s .args .table)) (s .args .mode) _)
+    (omega (arith, c .before .loop .inv .1, c .loop-test .left, c .before .before .row-count .ensures)) (c .before .loop .inv .0)))
