@@ -3,6 +3,8 @@ use super::loading::load_pool;
 use super::loading::load_rule;
 use engine::verdict;
 use tables::Answer;
+use tables::RULE_WORDS;
+use tables::TABLE_WORDS;
 ghost use mathlib.Core.Path.{_≡_};
 ghost use Prim.Native.Nat.{_≤_};
 ghost use Rattle.tables.specs.Answers.{andThen};
@@ -13,7 +15,7 @@ ghost use Rattle.checker.specs.Files.{poolOf, poolFile, filesAnswer, ret
 fn check_pool(rule: &[u32], file: &[u8]) -> Answer
     ensures { λ r. ⌜ r ≡ andThen (poolFile (now (file .entry))) (verdictAnswer (now (rule .entry)) (poolOf (now (file .entry)))) ⌝ }
 {
-    let mut words = [0u32; 5120];
+    let mut words = [0u32; TABLE_WORDS];
     let answer = load_pool(file, &mut words);
     match answer {
         Answer::Done(n) => verdict(rule, &words[..n]),
@@ -25,7 +27,7 @@ fn check_pool(rule: &[u32], file: &[u8]) -> Answer
 fn check_both(rule: &[u8], pool: &[u8]) -> Answer
     ensures { λ r. ⌜ r ≡ filesAnswer (now (rule .entry)) (now (pool .entry)) ⌝ }
 {
-    let mut words = [0u32; 512];
+    let mut words = [0u32; RULE_WORDS];
     let answer = load_rule(rule, &mut words);
     match answer {
         Answer::Done(n) => check_pool(&words[..n], pool),

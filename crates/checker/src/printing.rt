@@ -4,14 +4,17 @@ use super::counting::value_of;
 use super::loading::load_pool;
 use super::loading::load_rule;
 use tables::Answer;
+use tables::RULE_WORDS;
+use tables::TABLE_WORDS;
 use tables::write_counts;
 use tables::write_refusal;
 ghost use mathlib.Core.Path.{_≡_};
 ghost use mathlib.Core.Bool.{true};
-ghost use Prim.Native.Nat.{_≤_};
+ghost use Prim.Native.Nat.{_*_, _≤_};
 ghost use lib.ListN.{length};
-ghost use Rattle.tables.specs.Rules.{acceptedRule};
-ghost use Rattle.tables.specs.Tables.{acceptedTable};
+ghost use Rattle.tables.specs.Words.{rowWords, entryWords};
+ghost use Rattle.tables.specs.Rules.{entryLimit, acceptedRule};
+ghost use Rattle.tables.specs.Tables.{rowLimit, acceptedTable};
 ghost use Rattle.checker.specs.Files.{ruleOf, poolOf, ruleFile, poolFile};
 ghost use Rattle.checker.specs.Loading.{Loaded};
 ghost use Rattle.checker.specs.Report.{sized, counts, countsText, refusalText, textOf, printed, printedOut, reportLength, reportOut};
@@ -21,7 +24,7 @@ const FILE_LIMIT: usize = 65536;
 
 // Loads a rule file that is not too long.
 fn load_sized_rule(file: &[u8], out: &mut [u32]) -> Answer
-    requires { ⌜ length (now out) ≡ 512 ⌝ }
+    requires { ⌜ length (now out) ≡ entryLimit * entryWords ⌝ }
     ensures { λ r. ⌜ Loaded (sized 1 (now (file .entry)) (ruleFile (now (file .entry)))) (ruleOf (now (file .entry))) r (now (out .exit)) ⌝ }
 {
     if FILE_LIMIT < file.len() {
@@ -35,7 +38,7 @@ fn load_sized_rule(file: &[u8], out: &mut [u32]) -> Answer
 
 // Loads a pool file that is not too long.
 fn load_sized_pool(file: &[u8], out: &mut [u32]) -> Answer
-    requires { ⌜ length (now out) ≡ 5120 ⌝ }
+    requires { ⌜ length (now out) ≡ rowLimit * rowWords ⌝ }
     ensures { λ r. ⌜ Loaded (sized 8 (now (file .entry)) (poolFile (now (file .entry)))) (poolOf (now (file .entry))) r (now (out .exit)) ⌝ }
 {
     if FILE_LIMIT < file.len() {
@@ -73,7 +76,7 @@ fn report_pool(rule: &[u32], file: &[u8], out: &mut [u8]) -> usize
     ensures count { λ r. ⌜ r ≡ printed (textOf (sized 8 (now (file .entry)) (poolFile (now (file .entry)))) (counts (now (rule .entry)) (poolOf (now (file .entry))))) (length (now (out .entry))) ⌝ }
     ensures bytes { λ r. ⌜ now (out .exit) ≡ printedOut (textOf (sized 8 (now (file .entry)) (poolFile (now (file .entry)))) (counts (now (rule .entry)) (poolOf (now (file .entry))))) (now (out .entry)) ⌝ }
 {
-    let mut words = [0u32; 5120];
+    let mut words = [0u32; TABLE_WORDS];
     let answer = load_sized_pool(file, &mut words);
     match answer {
         Answer::Done(n) => put_counts(rule, &words[..n], out),
@@ -86,7 +89,7 @@ pub fn report(rule: &[u8], pool: &[u8], out: &mut [u8]) -> usize
     ensures count { λ r. ⌜ r ≡ reportLength (now (rule .entry)) (now (pool .entry)) (length (now (out .entry))) ⌝ }
     ensures bytes { λ r. ⌜ now (out .exit) ≡ reportOut (now (rule .entry)) (now (pool .entry)) (now (out .entry)) ⌝ }
 {
-    let mut words = [0u32; 512];
+    let mut words = [0u32; RULE_WORDS];
     let answer = load_sized_rule(rule, &mut words);
     match answer {
         Answer::Done(n) => report_pool(&words[..n], pool, out),

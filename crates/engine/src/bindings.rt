@@ -1,22 +1,23 @@
+use tables::NESTING_LIMIT;
 ghost use mathlib.Core.Path.{_≡_};
 ghost use Rattle.engine.specs.Places.{fresh, bindAt};
 
-// Each of the eight variables has a row or nothing: 0 is nothing, else 1 + the row's number. The first `depth` are bound.
+// Each variable has a row or nothing: 0 is nothing, else 1 + the row's number. The first `depth` are bound.
 pub struct Bindings {
-    pub row: [usize; 8],
+    pub row: [usize; Bindings::LIMIT],
     pub depth: usize,
 }
 
 impl Bindings {
-    // At most eight quantifiers stand around one another.
-    pub const LIMIT: usize = 8;
+    // So many quantifiers stand around one another at most.
+    pub const LIMIT: usize = NESTING_LIMIT;
 
     // They start with none bound.
     pub fn none() -> Self
         ensures { λ r. ⌜ r ≡ fresh ⌝ }
     {
         Bindings {
-            row: [0; 8],
+            row: [0; Bindings::LIMIT],
             depth: 0,
         }
     }
@@ -26,7 +27,7 @@ impl Bindings {
         ensures { λ r. ⌜ r ≡ bindAt self place ⌝ }
     {
         let at = self.depth;
-        if at < 8 {
+        if at < Bindings::LIMIT {
             self.row[at] = place;
             self.depth = at + 1;
             return self;

@@ -12,6 +12,7 @@ use super::words::row_count;
 use tables::Entry;
 ghost use mathlib.Core.Path.{_≡_};
 ghost use Prim.Native.Nat.{_<_, _≤_};
+ghost use Rattle.tables.specs.Rules.{nestingLimit};
 ghost use Rattle.engine.specs.Ready.{Placed, Ready, ReadyRows};
 ghost use Rattle.engine.specs.Settling.{CertainCompared, KnownParent, Steady, Certain, CertainRows, KnownRows, Settles};
 ghost use Rattle.tables.specs.Words.{rowCount};
@@ -19,8 +20,8 @@ ghost use Rattle.tables.specs.Words.{rowCount};
 // Whether a comparison has the wanted verdict whatever rows the unknown variables have.
 fn sure_compared(pool: &[u32], b: Bindings, e: Entry, want: bool) -> bool
     requires { ⌜ Placed (now pool) b ⌝ }
-    requires { ⌜ e .a < 8 ⌝ }
-    requires { ⌜ (e .b ≡ 0 → e .c < 8) ⌝ }
+    requires { ⌜ e .a < nestingLimit ⌝ }
+    requires { ⌜ (e .b ≡ 0 → e .c < nestingLimit) ⌝ }
     ensures { λ r. ⌜ CertainCompared (now (pool .entry)) b e want r ⌝ }
 {
     let left = place_of(b, e.a as usize);
@@ -50,7 +51,7 @@ fn is_short(pool: &[u32], place: usize) -> bool
 // Whether the rows that a quantifier ranges over are known, and few enough to be read ahead.
 fn reads_ahead(pool: &[u32], b: Bindings, e: Entry, effort: usize) -> bool
     requires { ⌜ Placed (now pool) b ⌝ }
-    requires { ⌜ e .b ≤ 8 ⌝ }
+    requires { ⌜ e .b ≤ nestingLimit ⌝ }
     ensures { λ r. ⌜ KnownParent b e r ⌝ }
 {
     let under = e.b as usize;
@@ -69,7 +70,7 @@ fn reads_ahead(pool: &[u32], b: Bindings, e: Entry, effort: usize) -> bool
 
 // If one reason is asked: whether, with the wanted verdict, it is every row that a quantifier ranges over, and these rows are known.
 fn is_steady(b: Bindings, e: Entry, want: bool, same: bool) -> bool
-    requires { ⌜ e .b ≤ 8 ⌝ }
+    requires { ⌜ e .b ≤ nestingLimit ⌝ }
     ensures { λ r. ⌜ Steady b e want same r ⌝ }
 {
     if !same {
@@ -185,7 +186,7 @@ fn scan(
 // Whether a quantifier's rows may be many and do not hang on the innermost variable, so that settling it at once may pay.
 fn is_wide(pool: &[u32], b: Bindings, e: Entry) -> bool
     requires { ⌜ Placed (now pool) b ⌝ }
-    requires { ⌜ e .b ≤ 8 ⌝ }
+    requires { ⌜ e .b ≤ nestingLimit ⌝ }
 {
     let under = e.b as usize;
     if under == b.depth {

@@ -5,12 +5,13 @@ use super::words::value_at;
 use tables::Entry;
 ghost use mathlib.Core.Path.{_≡_};
 ghost use Prim.Native.Nat.{_<_};
+ghost use Rattle.tables.specs.Rules.{nestingLimit};
 ghost use Rattle.logic.specs.Formulas.{operandOf};
 ghost use Rattle.logic.specs.Verdict.{compare, valueOf};
 ghost use Rattle.engine.specs.Ready.{Placed, comparisonOf, meant, comparedAt};
 
-// A comparison of kind 7, 8 or 9.
-fn compare_values(kind: u32, x: u32, y: u32) -> bool
+// A comparison of kind 7, 8 or 9, for collector and switch; any other kind compares as 9 does.
+pub fn compare_values(kind: u32, x: u32, y: u32) -> bool
     ensures { λ r. ⌜ r ≡ compare (comparisonOf kind) x y ⌝ }
 {
     if kind == 7 {
@@ -25,7 +26,7 @@ fn compare_values(kind: u32, x: u32, y: u32) -> bool
 // What a variable is compared with.
 fn operand(pool: &[u32], b: Bindings, e: Entry) -> u32
     requires { ⌜ Placed (now pool) b ⌝ }
-    requires { ⌜ (e .b ≡ 0 → e .c < 8) ⌝ }
+    requires { ⌜ (e .b ≡ 0 → e .c < nestingLimit) ⌝ }
     ensures { λ r. ⌜ r ≡ valueOf (meant (now (pool .entry)) b) (operandOf (e .b) (e .c)) ⌝ }
 {
     if e.b == 0 {
@@ -37,8 +38,8 @@ fn operand(pool: &[u32], b: Bindings, e: Entry) -> u32
 // Whether a comparison holds.
 pub(crate) fn compared(pool: &[u32], b: Bindings, e: Entry) -> bool
     requires { ⌜ Placed (now pool) b ⌝ }
-    requires { ⌜ e .a < 8 ⌝ }
-    requires { ⌜ (e .b ≡ 0 → e .c < 8) ⌝ }
+    requires { ⌜ e .a < nestingLimit ⌝ }
+    requires { ⌜ (e .b ≡ 0 → e .c < nestingLimit) ⌝ }
     ensures { λ r. ⌜ r ≡ comparedAt (now (pool .entry)) b e ⌝ }
 {
     let left = value_at(pool, place_of(b, e.a as usize));

@@ -12,3 +12,4 @@ mod words;
 pub use bindings::Bindings;
 pub use calls::marks;
 pub use calls::verdict;
+pub use comparisons::compare_values;

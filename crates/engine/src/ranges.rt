@@ -9,13 +9,14 @@ ghost use mathlib.Core.Bool.{true};
 ghost use Prim.Native.Nat.{ℕ, _+_, _-_, _<_, _≤_};
 ghost use Rattle.base.specs.Search.{first};
 ghost use Rattle.tables.specs.Words.{rowAt, rowCount};
+ghost use Rattle.tables.specs.Rules.{nestingLimit};
 ghost use Rattle.tables.specs.Tables.{acceptedTable};
 ghost use Rattle.engine.specs.Ready.{Placed, rangesAt, otherDevice, Covers};
 
 // Whether the quantifier of an entry ranges over a row.
 pub(crate) fn ranges(pool: &[u32], b: Bindings, e: Entry, row: usize) -> bool
     requires { ⌜ Placed (now pool) b ⌝ }
-    requires { ⌜ (e .b ≤ 8) × (row < rowCount (now pool)) ⌝ }
+    requires { ⌜ (e .b ≤ nestingLimit) × (row < rowCount (now pool)) ⌝ }
     ensures { λ r. ⌜ r ≡ rangesAt (now (pool .entry)) b e (rowAt (now (pool .entry)) row) ⌝ }
 {
     let r = row_at(pool, row);
@@ -37,7 +38,7 @@ pub(crate) fn ranges(pool: &[u32], b: Bindings, e: Entry, row: usize) -> bool
 // The first of `rows` rows from `row` on that it ranges over, or the end.
 pub(crate) fn next_ranged(pool: &[u32], b: Bindings, e: Entry, row: usize, rows: usize) -> usize
     requires { ⌜ Placed (now pool) b ⌝ }
-    requires { ⌜ (e .b ≤ 8) × (row + rows ≤ rowCount (now pool)) ⌝ }
+    requires { ⌜ (e .b ≤ nestingLimit) × (row + rows ≤ rowCount (now pool)) ⌝ }
     ensures { λ r. ⌜ r ≡ row + first (λ (j : ℕ). rangesAt (now (pool .entry)) b e (rowAt (now (pool .entry)) (row + j))) rows ⌝ }
 {
     let mut i = 0;
@@ -75,7 +76,7 @@ pub(crate) struct Run {
 // A run of rows outside which the quantifier of an entry ranges over none: all rows, or those of the bound row's device behind it.
 pub(crate) fn run_of(pool: &[u32], b: Bindings, e: Entry) -> Run
     requires { ⌜ Placed (now pool) b ⌝ }
-    requires { ⌜ (acceptedTable (now pool) ≡ true) × (e .b ≤ 8) ⌝ }
+    requires { ⌜ (acceptedTable (now pool) ≡ true) × (e .b ≤ nestingLimit) ⌝ }
     ensures { λ r. ⌜ Covers (now (pool .entry)) b e (r .start) (r .rows) ⌝ }
 {
     let under = e.b as usize;

@@ -17,7 +17,7 @@ ghost use lib.ListN.{length, getD, set};
 ghost use Rattle.base.specs.Lists.{any, select};
 ghost use Rattle.base.specs.Search.{first};
 ghost use Rattle.tables.specs.Words.{entryAt, entryCount, rowCount, rowsFrom};
-ghost use Rattle.tables.specs.Rules.{acceptedRule};
+ghost use Rattle.tables.specs.Rules.{nestingLimit, acceptedRule};
 ghost use Rattle.tables.specs.Tables.{acceptedTable};
 ghost use Rattle.logic.specs.Verdict.{settled};
 ghost use Rattle.engine.specs.Ready.{quantifierOf, Placed, rangesAt, Ready, ReadyRows, verdictAt, verdictFrom};
@@ -45,7 +45,7 @@ fn mark_if(asked: bool, row: usize, out: &mut [u8])
 
 // Marks the row or rows of a comparison's variables.
 fn mark_compared(b: Bindings, e: Entry, out: &mut [u8])
-    requires { ⌜ (e .a < 8) × (e .b ≡ 0 → e .c < 8) ⌝ }
+    requires { ⌜ (e .a < nestingLimit) × (e .b ≡ 0 → e .c < nestingLimit) ⌝ }
     requires { ⌜ ((v : ℕ) → getD (b .row) v 0 ≤ length (now out)) ⌝ }
     ensures { λ _. ⌜ now (out .exit) ≡ markCompared b e (now (out .entry)) ⌝ }
 {
@@ -58,7 +58,7 @@ fn mark_compared(b: Bindings, e: Entry, out: &mut [u8])
 // Marks those of `rows` rows from `row` on that a quantifier's entry ranges over, and tells whether there are any.
 fn mark_ranged(pool: &[u32], b: Bindings, e: Entry, row: usize, rows: usize, out: &mut [u8]) -> bool
     requires { ⌜ Placed (now pool) b ⌝ }
-    requires { ⌜ (acceptedTable (now pool) ≡ true) × (e .b ≤ 8) ⌝ }
+    requires { ⌜ (acceptedTable (now pool) ≡ true) × (e .b ≤ nestingLimit) ⌝ }
     requires { ⌜ (row + rows ≤ rowCount (now pool)) × (rowCount (now pool) ≤ length (now out)) ⌝ }
     ensures { λ r. ⌜ r ≡ any (rangesAt (now (pool .entry)) b e) (rowsFrom (now (pool .entry)) row rows) ⌝ }
     ensures { λ _. ⌜ now (out .exit) ≡ markIn (now (pool .entry)) (select (rangesAt (now (pool .entry)) b e) (rowsFrom (now (pool .entry)) row rows)) (now (out .entry)) ⌝ }

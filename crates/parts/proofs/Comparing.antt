@@ -5,8 +5,6 @@ use mathlib.Core.Bool.{Bool, true, false, Bool·beq}
 use mathlib.Core.List.{List}
 use native.Mathlib.Omega.{arith}
 use lib.ListN.{getD}
-use lib.Dec.{eqb, ltb, leb}
-use borrow.Author.Tests.{eq-eqb, ne-eqb}
 use Rattle.tables.specs.Words.{rowAt}
 use Rattle.tables.specs.declared.Row.{Row}
 use Rattle.tables.specs.declared.Entry.{Entry}
@@ -18,16 +16,6 @@ use Rattle.engine.specs.declared.bindings.Bindings.{Bindings}
 use Rattle.parts.specs.Device.{comparedAt}
 use Rattle.parts.proofs.Asking.{reads-open}
 use Rattle.parts.proofs.Spans.{at-nothing, at-row}
-
--- ---- by kind
-pub compare-equal : (k x y : ℕ) → k ≡ 7 → eqb x y ≡ compare (comparisonOf k) x y
-compare-equal k x y h = simp (eq-eqb k 7 h)
-
-pub compare-less : (k x y : ℕ) → (k ≡ 7 → ⊥) → k ≡ 8 → ltb x y ≡ compare (comparisonOf k) x y
-compare-less k x y n h = simp (ne-eqb k 7 n, eq-eqb k 8 h)
-
-pub compare-most : (k x y : ℕ) → (k ≡ 7 → ⊥) → (k ≡ 8 → ⊥) → leb x y ≡ compare (comparisonOf k) x y
-compare-most k x y n m = simp (ne-eqb k 7 n, ne-eqb k 8 m)
 
 -- ---- a comparison that is asked for the value w
 certain-reads : (x w : Bool) → Bool·beq x w ≡ meaning.reads w (meaning.certain x)

@@ -9,7 +9,7 @@ use Rattle.base.specs.Lists.{when}
 use Rattle.base.specs.Search.{first}
 use Rattle.tables.specs.Words.{rowAt, rowCount, rows, entryAt, entryCount}
 use Rattle.tables.specs.Rules.{nestingLimit}
-use Rattle.tables.specs.Tables.{isParent, acceptedTable}
+use Rattle.tables.specs.Tables.{rowLimit, isParent, acceptedTable}
 use Rattle.tables.specs.declared.Row.{Row}
 use Rattle.logic.specs.Formulas.{overOf}
 use Rattle.logic.specs.Verdict as meaning
@@ -27,7 +27,7 @@ parentOf t i = first (λ j. isParent (rowAt t i) (rowAt t j)) i
 
 -- a work array holds the values of f at the first n numbers
 pub record Holds (f : ℕ → ℕ) (xs : List ℕ) (n : ℕ) : Type 0 where
-  pub sized : length xs ≡ 1024
+  pub sized : length xs ≡ rowLimit
   pub holds : (j : ℕ) → j < n → getD xs j 0 ≡ f j
 
 -- each row's
@@ -36,7 +36,7 @@ Parents t parents = Holds (parentOf t) parents (rowCount t)
 
 -- a work array says of each of the first n rows where its children among them end: behind the row itself, and behind the last of them
 pub record EndsWithin (t ends : List ℕ) (n : ℕ) : Type 0 where
-  pub sized : length ends ≡ 1024
+  pub sized : length ends ≡ rowLimit
   pub behind : (p : ℕ) → p < n → p < getD ends p 0
   pub within : (p : ℕ) → p < n → getD ends p 0 ≤ n
   pub none-later : (p j : ℕ) → p < n → getD ends p 0 ≤ j → j < n → isParent (rowAt t j) (rowAt t p) ≡ false

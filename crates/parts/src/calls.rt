@@ -5,6 +5,8 @@ use super::sending::send;
 use super::words::row_at;
 use super::words::row_count;
 use tables::Answer;
+use tables::ROW_LIMIT;
+use tables::ROW_WORDS;
 use tables::check_rule;
 use tables::check_table;
 ghost use mathlib.Core.Path.{_≡_};
@@ -60,7 +62,7 @@ fn check_request(rule: &[u32], table: &[u32], mode: u32) -> Answer
 // Which rows a device sends into an output of that many words: a byte for each row, and the answer.
 struct Choice {
     answer: Answer,
-    row: [u8; 1024],
+    row: [u8; ROW_LIMIT],
 }
 
 fn choose(rule: &[u32], table: &[u32], mode: u32, room: usize) -> Choice
@@ -70,18 +72,18 @@ fn choose(rule: &[u32], table: &[u32], mode: u32, room: usize) -> Choice
     if let Answer::Refused { number, place } = a {
         return Choice {
             answer: Answer::Refused { number, place },
-            row: [0; 1024],
+            row: [0; ROW_LIMIT],
         };
     }
     let kept = kept_rows(rule, table, mode);
     let count = count_kept(&kept, row_count(table));
-    if room < 5 * count {
+    if room < ROW_WORDS * count {
         return Choice {
             answer: Answer::Refused {
                 number: 17,
                 place: 0,
             },
-            row: [0; 1024],
+            row: [0; ROW_LIMIT],
         };
     }
     Choice {

@@ -5,11 +5,13 @@ use engine::Bindings;
 ghost use mathlib.Core.Path.{_≡_};
 ghost use Prim.Native.Nat.{_<_};
 ghost use lib.ListN.{getD};
+ghost use Rattle.tables.specs.Rules.{nestingLimit};
+ghost use Rattle.tables.specs.Tables.{rowLimit};
 ghost use Rattle.parts.specs.Reaching.{noBinders, withBinder, notReached, bindsFrom, ReadyClimb, Climbed};
 
 // The quantifiers around an entry: variable v is bound by the quantifier at entry[v], and the first `depth` variables are bound.
 pub struct Binders {
-    pub entry: [usize; 8],
+    pub entry: [usize; Bindings::LIMIT],
     pub depth: usize,
 }
 
@@ -18,14 +20,14 @@ impl Binders {
         ensures { λ r. ⌜ r ≡ noBinders ⌝ }
     {
         Binders {
-            entry: [0; 8],
+            entry: [0; Bindings::LIMIT],
             depth: 0,
         }
     }
 
     // One more quantifier.
     pub(crate) fn with(mut self, entry: usize) -> Self
-        requires { ⌜ self .depth < 8 ⌝ }
+        requires { ⌜ self .depth < nestingLimit ⌝ }
         ensures { λ r. ⌜ r ≡ withBinder self entry ⌝ }
     {
         let at = self.depth;
@@ -36,7 +38,7 @@ impl Binders {
 
     // The entry of the quantifier that binds a variable.
     fn of(self, variable: usize) -> usize
-        requires { ⌜ variable < 8 ⌝ }
+        requires { ⌜ variable < nestingLimit ⌝ }
         ensures { λ r. ⌜ r ≡ getD (self .entry) variable 0 ⌝ }
     {
         self.entry[variable]
@@ -60,7 +62,7 @@ fn not_reached() -> Chain
 
 // The bindings of a chain with one more variable, bound to a row.
 fn reached_from(b: Bindings, variable: usize, row: usize) -> Chain
-    requires { ⌜ row < 1024 ⌝ }
+    requires { ⌜ row < rowLimit ⌝ }
     ensures { λ r. ⌜ r ≡ bindsFrom b variable row ⌝ }
 {
     let places = b.row;

@@ -7,33 +7,21 @@ use super::words::entry_at;
 use super::words::row_at;
 use super::words::row_count;
 use engine::Bindings;
+use engine::compare_values;
 use tables::Entry;
 ghost use mathlib.Core.Path.{_≡_};
 ghost use Prim.Native.Nat.{_+_, _<_};
-ghost use Rattle.logic.specs.Verdict.{compare};
+ghost use Rattle.tables.specs.Rules.{nestingLimit};
 ghost use Rattle.logic.specs.Reading as meaning;
-ghost use Rattle.engine.specs.Ready.{Placed, comparisonOf, Ready};
+ghost use Rattle.engine.specs.Ready.{Placed, Ready};
 ghost use Rattle.parts.specs.Device.{comparedAt, readsAt, sweepsAt, ReadySweep};
 ghost use Rattle.parts.specs.Reaching.{Ends};
-
-// A comparison of kind 7, 8 or 9.
-fn compare_values(kind: u32, x: u32, y: u32) -> bool
-    ensures { λ r. ⌜ r ≡ compare (comparisonOf kind) x y ⌝ }
-{
-    if kind == 7 {
-        return x == y;
-    }
-    if kind == 8 {
-        return x < y;
-    }
-    x <= y
-}
 
 // A comparison that touches an elsewhere variable is open.
 fn compared(table: &[u32], b: Bindings, e: Entry, wanted: bool) -> bool
     requires { ⌜ Placed (now table) b ⌝ }
-    requires { ⌜ e .a < 8 ⌝ }
-    requires { ⌜ (e .b ≡ 0 → e .c < 8) ⌝ }
+    requires { ⌜ e .a < nestingLimit ⌝ }
+    requires { ⌜ (e .b ≡ 0 → e .c < nestingLimit) ⌝ }
     ensures { λ r. ⌜ r ≡ meaning.reads wanted (comparedAt (now (table .entry)) b e) ⌝ }
 {
     let p = place_of(b, e.a as usize);

@@ -4,6 +4,7 @@ use super::omitting::omits;
 use super::parents::find_ends;
 use super::parents::find_parents;
 use super::words::row_count;
+use tables::ROW_LIMIT;
 ghost use mathlib.Core.Path.{_≡_};
 ghost use Prim.Native.Nat.{_<_};
 ghost use lib.ListN.{length, getD};
@@ -53,16 +54,16 @@ fn row_stays(
 }
 
 // That byte of each row.
-pub(crate) fn kept_rows(rule: &[u32], table: &[u32], mode: u32) -> [u8; 1024]
+pub(crate) fn kept_rows(rule: &[u32], table: &[u32], mode: u32) -> [u8; ROW_LIMIT]
     requires { ⌜ ReadyPart (now rule) (now table) ⌝ }
     ensures { λ r. ⌜ Keeps (now (rule .entry)) (now (table .entry)) mode r (rowCount (now (table .entry))) ⌝ }
 {
-    let mut parents = [0u16; 1024];
+    let mut parents = [0u16; ROW_LIMIT];
     find_parents(table, &mut parents);
-    let mut ends = [0u16; 1024];
+    let mut ends = [0u16; ROW_LIMIT];
     find_ends(table, &parents, &mut ends);
     let n = row_count(table);
-    let mut kept = [0u8; 1024];
+    let mut kept = [0u8; ROW_LIMIT];
     let mut i = 0;
     while i < n {
         kept[i] = row_stays(rule, table, &parents, &ends, &kept, mode, i);

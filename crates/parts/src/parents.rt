@@ -5,6 +5,7 @@ ghost use mathlib.Core.Path.{_≡_};
 ghost use Prim.Native.Nat.{_<_};
 ghost use lib.ListN.{length};
 ghost use Rattle.tables.specs.Words.{rowCount};
+ghost use Rattle.tables.specs.Tables.{rowLimit};
 ghost use Rattle.parts.specs.Reaching.{parentOf, Parents, Ends};
 ghost use Rattle.parts.specs.Keeping.{OneDevice};
 
@@ -36,7 +37,7 @@ fn parent_of(table: &[u32], row: usize) -> usize
 // Writes each row's.
 pub(crate) fn find_parents(table: &[u32], parents: &mut [u16])
     requires { ⌜ OneDevice (now table) ⌝ }
-    requires { ⌜ length (now parents) ≡ 1024 ⌝ }
+    requires { ⌜ length (now parents) ≡ rowLimit ⌝ }
     ensures { λ _. ⌜ Parents (now (table .entry)) (now (parents .exit)) ⌝ }
 {
     let n = row_count(table);
@@ -51,7 +52,7 @@ pub(crate) fn find_parents(table: &[u32], parents: &mut [u16])
 pub(crate) fn find_ends(table: &[u32], parents: &[u16], ends: &mut [u16])
     requires { ⌜ OneDevice (now table) ⌝ }
     requires { ⌜ Parents (now table) (now parents) ⌝ }
-    requires { ⌜ length (now ends) ≡ 1024 ⌝ }
+    requires { ⌜ length (now ends) ≡ rowLimit ⌝ }
     ensures { λ _. ⌜ Ends (now (table .entry)) (now (ends .exit)) ⌝ }
 {
     let n = row_count(table);

@@ -6,11 +6,12 @@ ghost use Prim.Native.Nat.{ℕ, _+_, _<_, _≤_};
 ghost use lib.ListN.{getD};
 ghost use Rattle.base.specs.Search.{first};
 ghost use Rattle.tables.specs.Words.{rowCount};
+ghost use Rattle.tables.specs.Rules.{nestingLimit};
 ghost use Rattle.parts.specs.Device.{placeUnder, rangedAt};
 
 // The place of a variable: 0 for elsewhere, else 1 + the row's number.
 pub(crate) fn place_of(b: Bindings, variable: usize) -> usize
-    requires { ⌜ variable < 8 ⌝ }
+    requires { ⌜ variable < nestingLimit ⌝ }
     ensures { λ r. ⌜ r ≡ getD (b .row) variable 0 ⌝ }
 {
     b.row[variable]
@@ -18,7 +19,7 @@ pub(crate) fn place_of(b: Bindings, variable: usize) -> usize
 
 // The place of the parent that b of a quantifier names.
 pub(crate) fn place_under(b: Bindings, under: usize) -> usize
-    requires { ⌜ under ≤ 8 ⌝ }
+    requires { ⌜ under ≤ nestingLimit ⌝ }
     ensures { λ r. ⌜ r ≡ placeUnder (b .row) under ⌝ }
 {
     if under == 0 {

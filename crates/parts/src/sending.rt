@@ -1,20 +1,26 @@
 // The kept rows: how many, and their words.
 use super::words::row_at;
 use super::words::row_count;
+use tables::AT;
+use tables::NAME;
+use tables::ROW_WORDS;
+use tables::UP;
+use tables::VALUE;
 ghost use mathlib.Core.Path.{_≡_};
 ghost use Prim.Native.Nat.{ℕ, _+_, _*_, _<_, _≤_};
 ghost use lib.ListN.{length, getD};
 ghost use lib.Seq.{sets};
 ghost use Rattle.base.specs.Search.{sumBelow};
 ghost use Rattle.tables.specs.Words.{rowCount};
+ghost use Rattle.tables.specs.Tables.{rowLimit};
 ghost use Rattle.logic.specs.Parts.{wordsOf};
 ghost use Rattle.parts.specs.Sending.{rowSent, rowsSent};
 
 // How many of the first `rows` rows are kept.
 pub(crate) fn count_kept(kept: &[u8], rows: usize) -> usize
-    requires { ⌜ (rows ≤ length (now kept)) × (rows ≤ 1024) ⌝ }
+    requires { ⌜ (rows ≤ length (now kept)) × (rows ≤ rowLimit) ⌝ }
     ensures { λ r. ⌜ r ≡ sumBelow (λ (j : ℕ). getD (now (kept .entry)) j 0) rows ⌝ }
-    ensures { λ r. ⌜ r ≤ 255 * 1024 ⌝ }
+    ensures { λ r. ⌜ r ≤ 255 * rowLimit ⌝ }
 {
     let mut count = 0;
     let mut i = 0;
@@ -37,11 +43,11 @@ fn send_row(table: &[u32], row: usize, keep: u8, out: &mut [u32], at: usize) -> 
     }
     let r = row_at(table, row);
     out[at] = r.device;
-    out[at + 1] = r.at;
-    out[at + 2] = r.up;
-    out[at + 3] = r.name;
-    out[at + 4] = r.value;
-    at + 5
+    out[at + AT] = r.at;
+    out[at + UP] = r.up;
+    out[at + NAME] = r.name;
+    out[at + VALUE] = r.value;
+    at + ROW_WORDS
 }
 
 // Writes the kept rows' words, in their order, at the start of the output.

@@ -1,32 +1,20 @@
 // Entries and rows as the code reads them.
+use tables::A;
+use tables::AT;
+use tables::B;
+use tables::C;
+use tables::DEVICE;
+use tables::ENTRY_WORDS;
 use tables::Entry;
+use tables::KIND;
+use tables::NAME;
+use tables::ROW_WORDS;
 use tables::Row;
+use tables::UP;
+use tables::VALUE;
 ghost use mathlib.Core.Path.{_≡_};
 ghost use Prim.Native.Nat.{_<_};
 ghost use Rattle.tables.specs.Words.{rowAt, rowCount, entryAt, entryCount};
-
-// The words of a row and of an entry, in their order.
-const ROW_WORDS: usize = 5;
-
-const DEVICE: usize = 0;
-
-const AT: usize = 1;
-
-const UP: usize = 2;
-
-const NAME: usize = 3;
-
-const VALUE: usize = 4;
-
-const ENTRY_WORDS: usize = 4;
-
-const KIND: usize = 0;
-
-const A: usize = 1;
-
-const B: usize = 2;
-
-const C: usize = 3;
 
 pub(crate) fn row_at(t: &[u32], i: usize) -> Row
     requires { ⌜ i < rowCount (now t) ⌝ }

@@ -165,7 +165,7 @@ module _ (r : List ℕ) (ok : acceptedRule r ≡ true) where
     unfolding entryFault
     unbound-ok = faultless 7 (List·Memᴰ·tail (List·Memᴰ·tail (List·Memᴰ·tail (List·Memᴰ·tail (List·Memᴰ·tail (List·Memᴰ·head refl)))))) i h
 
-    -- a quantifier binds one of eight variables in its body, and its parent's variable is bound
+    -- a quantifier binds one of the variables in its body, and its parent's variable is bound
     module _ (high : 5 ≤ entryAt r i .kind) (low : entryAt r i .kind ≤ 6) where
       pub body-depth : around r (entryAt r i .a) ≡ around r i + 1
       body-depth = child-around low ∙ rw (is-quantifier (entryAt r i) high low) (omega arith)

@@ -6,7 +6,7 @@ use mathlib.Core.List.{List}
 use lib.ListN.{length, getD}
 use lib.Dec.{eqb}
 use Rattle.tables.specs.Words.{rowAt}
-use Rattle.tables.specs.Tables.{root, isParent, isTwin, outOfRange, notAbove, noParent, hasTwin}
+use Rattle.tables.specs.Tables.{rowLimit, root, isParent, isTwin, outOfRange, notAbove, noParent, hasTwin}
 use Rattle.tables.specs.declared.Row.{Row}
 
 -- one more than the last number below n at which p holds, 0 where there is none
@@ -54,8 +54,8 @@ hashAt k t i = ownHash k (rowAt t i)
 
 -- next has for each of the first i rows one more than the last row before it with its hash
 pub record Linked (hash : ℕ → ℕ) (next : List ℕ) (i : ℕ) : Type 0 where
-  pub long : length next ≡ 1024
-  pub fits : i ≤ 1024
+  pub long : length next ≡ rowLimit
+  pub fits : i ≤ rowLimit
   pub links : (j : ℕ) → j < i → getD next j 0 ≡ lastOf (λ m. eqb (hash m) (hash j)) j
 
 -- head has for each hash one more than the last of the first i rows with it

@@ -101,9 +101,13 @@ entryFault r k i =
     (cond (eqb k 6) (tooDeep r i)
     (unbound (around r i) (entryAt r i))))))
 
+-- a rule has 1 to 128 entries
+abbrev pub entryLimit : ℕ
+entryLimit = 128
+
 -- 1: not 1 to 128 whole entries
 abbrev pub ruleLength : List ℕ → Bool
-ruleLength r = whole entryWords r && (leb 1 (entryCount r) && leb (entryCount r) 128)
+ruleLength r = whole entryWords r && (leb 1 (entryCount r) && leb (entryCount r) entryLimit)
 
 -- the answer of the rule checks: the number of entries, or the first refusal
 unfoldable pub checkRule : List ℕ → Answer

@@ -4,18 +4,23 @@ use super::pairwise::has_match_before;
 use super::rows::is_parent;
 use super::rows::is_twin;
 use super::rows::row_of;
+use super::tables::ROW_LIMIT;
 ghost use mathlib.Core.Path.{_≡_};
 ghost use mathlib.Core.List.{_++_};
 ghost use Prim.Native.Nat.{ℕ, _+_, _*_, _%_, _≤_, _<_};
 ghost use lib.ListN.{length};
 ghost use lib.Dec.{eqb};
 ghost use Rattle.base.specs.Search.{first, some};
-ghost use Rattle.tables.specs.Words.{rowAt};
+ghost use Rattle.tables.specs.Words.{rowWords, rowAt};
+ghost use Rattle.tables.specs.Tables.{rowLimit};
 ghost use Rattle.tables.specs.Chains.{lastOf, matchOf, faultOf, linkFault, hashOf, twinHash, ownHash, soughtHash, hashAt, Linked};
 
 // How far a chain is followed. Longer ones only come up where the hashes of many rows are equal, and then each step waits for the
 // one before: looking at all rows is quicker.
 const MOST_STEPS: usize = 8;
+
+// A hash is below this.
+const HASHES: usize = 1024;
 
 fn size(x: u32) -> usize
     ensures { λ r. ⌜ r ≡ x ⌝ }
@@ -78,8 +83,8 @@ fn matches(number: u32, r: Row, b: Row) -> bool
 // Whether one of the first i rows of s and t matches r: k is one more than the last of them with the sought hash, and the chain
 // goes on from there.
 fn has_match(s: &[u32], t: &[u32], next: &[u16], i: usize, k: usize, number: u32, r: Row) -> bool
-    requires { ⌜ length (now s) % 5 ≡ 0 ⌝ }
-    requires { ⌜ 5 * i ≤ length (now s) + length (now t) ⌝ }
+    requires { ⌜ length (now s) % rowWords ≡ 0 ⌝ }
+    requires { ⌜ rowWords * i ≤ length (now s) + length (now t) ⌝ }
     requires { ⌜ Linked (hashAt number (now s ++ now t)) (now next) i ⌝ }
     requires { ⌜ k ≡ lastOf (λ (m : ℕ). eqb (hashAt number (now s ++ now t) m) (soughtHash number r)) i ⌝ }
     ensures { λ o. ⌜ o ≡ some (λ j. matchOf number r (rowAt (now (s .entry) ++ now (t .entry)) j)) i ⌝ }
@@ -102,8 +107,8 @@ fn has_match(s: &[u32], t: &[u32], next: &[u16], i: usize, k: usize, number: u32
 
 // Whether row r, behind the first i rows of s and t, has fault 11 or 12.
 fn is_fault(s: &[u32], t: &[u32], next: &[u16], i: usize, k: usize, number: u32, r: Row) -> bool
-    requires { ⌜ length (now s) % 5 ≡ 0 ⌝ }
-    requires { ⌜ 5 * i ≤ length (now s) + length (now t) ⌝ }
+    requires { ⌜ length (now s) % rowWords ≡ 0 ⌝ }
+    requires { ⌜ rowWords * i ≤ length (now s) + length (now t) ⌝ }
     requires { ⌜ Linked (hashAt number (now s ++ now t)) (now next) i ⌝ }
     requires { ⌜ k ≡ lastOf (λ (m : ℕ). eqb (hashAt number (now s ++ now t) m) (soughtHash number r)) i ⌝ }
     ensures { λ o. ⌜ o ≡ faultOf number r (some (λ j. matchOf number r (rowAt (now (s .entry) ++ now (t .entry)) j)) i) ⌝ }
@@ -121,14 +126,14 @@ fn is_fault(s: &[u32], t: &[u32], next: &[u16], i: usize, k: usize, number: u32,
 
 // The first of the n rows of s and t that has fault 11 or 12, or n where none has.
 pub(crate) fn first_linked(s: &[u32], t: &[u32], n: usize, number: u32) -> usize
-    requires { ⌜ length (now s) % 5 ≡ 0 ⌝ }
-    requires { ⌜ 5 * n ≤ length (now s) + length (now t) ⌝ }
-    requires { ⌜ n ≤ 1024 ⌝ }
+    requires { ⌜ length (now s) % rowWords ≡ 0 ⌝ }
+    requires { ⌜ rowWords * n ≤ length (now s) + length (now t) ⌝ }
+    requires { ⌜ n ≤ rowLimit ⌝ }
     ensures { λ o. ⌜ o ≡ first (linkFault number (now (s .entry) ++ now (t .entry))) n ⌝ }
 {
     // 16 bits each: clearing them is most of a small table's cost.
-    let mut head = [0u16; 1024];
-    let mut next = [0u16; 1024];
+    let mut head = [0u16; HASHES];
+    let mut next = [0u16; ROW_LIMIT];
     let mut i = 0;
     while i < n {
         let r = row_of(s, t, i);

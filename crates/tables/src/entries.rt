@@ -5,7 +5,7 @@ ghost use Prim.Native.Nat.{_+_, _*_, _≤_, _<_};
 ghost use lib.ListN.{length};
 ghost use Rattle.base.specs.Search.{sumBelow};
 ghost use Rattle.tables.specs.Words.{entryAt};
-ghost use Rattle.tables.specs.Rules.{unknownKind, badWord, badChild, unbound, isQuantifier, isChild, namings, around, one};
+ghost use Rattle.tables.specs.Rules.{unknownKind, badWord, badChild, unbound, isQuantifier, isChild, namings, around, one, entryLimit};
 
 // The words of an entry, in the entry's order.
 pub const ENTRY_WORDS: usize = 4;
@@ -113,7 +113,7 @@ fn namings_of(e: Entry, j: usize) -> usize
 
 // How many child places of the n entries name j.
 pub(crate) fn times_named(rule: &[u32], n: usize, j: usize) -> usize
-    requires { ⌜ (4 * n ≤ length (now rule)) × (n ≤ 128) ⌝ }
+    requires { ⌜ (4 * n ≤ length (now rule)) × (n ≤ entryLimit) ⌝ }
     ensures { λ o. ⌜ o ≡ sumBelow (λ i. namings (entryAt (now (rule .entry)) i) j) n ⌝ }
 {
     let mut sum = 0;

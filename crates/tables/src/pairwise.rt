@@ -10,7 +10,7 @@ ghost use mathlib.Core.List.{_++_};
 ghost use Prim.Native.Nat.{_+_, _*_, _%_, _≤_};
 ghost use lib.ListN.{length};
 ghost use Rattle.base.specs.Search.{some};
-ghost use Rattle.tables.specs.Words.{rowAt};
+ghost use Rattle.tables.specs.Words.{rowWords, rowAt};
 ghost use Rattle.tables.specs.Tables.{isTwin};
 ghost use Rattle.tables.specs.Chains.{matchOf, isLike};
 
@@ -22,7 +22,7 @@ fn is_like(r: Row, b: Row) -> bool
 
 // Whether one of the first n rows has the name and value of r. It never stops early, and so compares several rows at once.
 fn has_like(t: &[u32], n: usize, r: Row) -> bool
-    requires { ⌜ 5 * n ≤ length (now t) ⌝ }
+    requires { ⌜ rowWords * n ≤ length (now t) ⌝ }
     ensures { λ o. ⌜ o ≡ some (λ j. isLike r (rowAt (now (t .entry)) j)) n ⌝ }
 {
     let mut found = false;
@@ -36,7 +36,7 @@ fn has_like(t: &[u32], n: usize, r: Row) -> bool
 
 // The parent is tested first: some row is known to have the name and value of r.
 fn is_twin_at(t: &[u32], j: usize, r: Row) -> bool
-    requires { ⌜ 5 * j + 5 ≤ length (now t) ⌝ }
+    requires { ⌜ rowWords * j + rowWords ≤ length (now t) ⌝ }
     ensures { λ o. ⌜ o ≡ isTwin r (rowAt (now (t .entry)) j) ⌝ }
 {
     if t[ROW_WORDS * j + UP] == r.up {
@@ -46,7 +46,7 @@ fn is_twin_at(t: &[u32], j: usize, r: Row) -> bool
 }
 
 fn matches_at(t: &[u32], j: usize, number: u32, r: Row) -> bool
-    requires { ⌜ 5 * j + 5 ≤ length (now t) ⌝ }
+    requires { ⌜ rowWords * j + rowWords ≤ length (now t) ⌝ }
     ensures { λ o. ⌜ o ≡ matchOf number r (rowAt (now (t .entry)) j) ⌝ }
 {
     if number == 11 {
@@ -57,7 +57,7 @@ fn matches_at(t: &[u32], j: usize, number: u32, r: Row) -> bool
 
 // Stops at the first row that matches.
 fn scan(t: &[u32], n: usize, number: u32, r: Row) -> bool
-    requires { ⌜ 5 * n ≤ length (now t) ⌝ }
+    requires { ⌜ rowWords * n ≤ length (now t) ⌝ }
     ensures { λ o. ⌜ o ≡ some (λ j. matchOf number r (rowAt (now (t .entry)) j)) n ⌝ }
 {
     let mut j = 0;
@@ -72,7 +72,7 @@ fn scan(t: &[u32], n: usize, number: u32, r: Row) -> bool
 
 // Whether one of the first n rows of t matches r.
 fn has_match_in(t: &[u32], n: usize, number: u32, r: Row) -> bool
-    requires { ⌜ 5 * n ≤ length (now t) ⌝ }
+    requires { ⌜ rowWords * n ≤ length (now t) ⌝ }
     ensures { λ o. ⌜ o ≡ some (λ j. matchOf number r (rowAt (now (t .entry)) j)) n ⌝ }
 {
     if number == 11 {
@@ -86,8 +86,8 @@ fn has_match_in(t: &[u32], n: usize, number: u32, r: Row) -> bool
 
 // Whether one of the first n rows of s and t matches r.
 pub(crate) fn has_match_before(s: &[u32], t: &[u32], n: usize, number: u32, r: Row) -> bool
-    requires { ⌜ length (now s) % 5 ≡ 0 ⌝ }
-    requires { ⌜ 5 * n ≤ length (now s) + length (now t) ⌝ }
+    requires { ⌜ length (now s) % rowWords ≡ 0 ⌝ }
+    requires { ⌜ rowWords * n ≤ length (now s) + length (now t) ⌝ }
     ensures { λ o. ⌜ o ≡ some (λ j. matchOf number r (rowAt (now (s .entry) ++ now (t .entry)) j)) n ⌝ }
 {
     let m = s.len() / ROW_WORDS;

@@ -4,7 +4,7 @@ ghost use mathlib.Core.Path.{_≡_};
 ghost use mathlib.Core.List.{_++_};
 ghost use Prim.Native.Nat.{_+_, _*_, _%_, _≤_};
 ghost use lib.ListN.{length};
-ghost use Rattle.tables.specs.Words.{rowAt};
+ghost use Rattle.tables.specs.Words.{rowWords, rowAt};
 ghost use Rattle.tables.specs.Tables.{outOfRange, isAbove, isParent, isTwin};
 
 // The columns of a row, in the row's order.
@@ -21,7 +21,7 @@ pub const NAME: usize = 3;
 pub const VALUE: usize = 4;
 
 pub(crate) fn row_at(t: &[u32], i: usize) -> Row
-    requires { ⌜ 5 * i + 5 ≤ length (now t) ⌝ }
+    requires { ⌜ rowWords * i + rowWords ≤ length (now t) ⌝ }
     ensures { λ r. ⌜ r ≡ rowAt (now (t .entry)) i ⌝ }
 {
     Row {
@@ -35,8 +35,8 @@ pub(crate) fn row_at(t: &[u32], i: usize) -> Row
 
 // Row i of the table that s and t make in a row.
 pub(crate) fn row_of(s: &[u32], t: &[u32], i: usize) -> Row
-    requires { ⌜ length (now s) % 5 ≡ 0 ⌝ }
-    requires { ⌜ 5 * i + 5 ≤ length (now s) + length (now t) ⌝ }
+    requires { ⌜ length (now s) % rowWords ≡ 0 ⌝ }
+    requires { ⌜ rowWords * i + rowWords ≤ length (now s) + length (now t) ⌝ }
     ensures { λ r. ⌜ r ≡ rowAt (now (s .entry) ++ now (t .entry)) i ⌝ }
 {
     let n = s.len() / ROW_WORDS;

@@ -13,11 +13,20 @@ ghost use mathlib.Core.Path.{_≡_};
 ghost use Prim.Native.Nat.{_≤_, _<_};
 ghost use Rattle.base.specs.Search.{first};
 ghost use Rattle.tables.specs.Words.{entryCount};
-ghost use Rattle.tables.specs.Rules.{entryFault, checkRule};
+ghost use Rattle.tables.specs.Rules.{entryFault, entryLimit, checkRule};
+
+// A rule has 1 to so many entries.
+pub const ENTRY_LIMIT: usize = 128;
+
+// A buffer of so many words has room for any rule.
+pub const RULE_WORDS: usize = ENTRY_LIMIT * ENTRY_WORDS;
+
+// So many quantifiers stand around one another at most.
+pub const NESTING_LIMIT: usize = 8;
 
 // Whether entry i of n has the fault of that number.
 fn entry_fault(rule: &[u32], n: usize, number: u32, i: usize) -> bool
-    requires { ⌜ (n ≡ entryCount (now rule)) × (n ≤ 128) × (i < n) ⌝ }
+    requires { ⌜ (n ≡ entryCount (now rule)) × (n ≤ entryLimit) × (i < n) ⌝ }
     ensures { λ o. ⌜ o ≡ entryFault (now (rule .entry)) number i ⌝ }
 {
     let e = entry_at(rule, i);
@@ -37,14 +46,14 @@ fn entry_fault(rule: &[u32], n: usize, number: u32, i: usize) -> bool
     let d = quantifiers_around(rule, i);
     if number == 6 {
         let quantifier = is_quantifier(e);
-        return quantifier & (8 <= d);
+        return quantifier & (NESTING_LIMIT <= d);
     }
     unbound_variable(d, e)
 }
 
 // The first of n entries that has the fault of that number, or n where none has.
 fn first_entry_fault(rule: &[u32], n: usize, number: u32) -> usize
-    requires { ⌜ (n ≡ entryCount (now rule)) × (n ≤ 128) ⌝ }
+    requires { ⌜ (n ≡ entryCount (now rule)) × (n ≤ entryLimit) ⌝ }
     ensures { λ o. ⌜ o ≡ first (entryFault (now (rule .entry)) number) n ⌝ }
 {
     let mut i = 0;
@@ -62,7 +71,7 @@ pub fn check_rule(rule: &[u32]) -> Answer
     ensures { λ r. ⌜ r ≡ checkRule (now (rule .entry)) ⌝ }
 {
     let n = rule.len() / ENTRY_WORDS;
-    let whole = (rule.len() % ENTRY_WORDS == 0) & ((1 <= n) & (n <= 128));
+    let whole = (rule.len() % ENTRY_WORDS == 0) & ((1 <= n) & (n <= ENTRY_LIMIT));
     if !whole {
         return Answer::Refused {
             number: 1,

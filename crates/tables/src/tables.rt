@@ -9,14 +9,18 @@ ghost use mathlib.Core.Path.{_≡_};
 ghost use Prim.Native.Nat.{_+_, _*_, _%_, _≤_, _<_};
 ghost use lib.ListN.{length};
 ghost use Rattle.base.specs.Search.{first};
-ghost use Rattle.tables.specs.Tables.{rowFault, checkTable};
+ghost use Rattle.tables.specs.Words.{rowWords};
+ghost use Rattle.tables.specs.Tables.{rowLimit, rowFault, checkTable};
 ghost use Rattle.tables.specs.Chains.{plainFault};
 
-pub(crate) const ROW_LIMIT: usize = 1024;
+pub const ROW_LIMIT: usize = 1024;
+
+// A buffer of so many words has room for any table.
+pub const TABLE_WORDS: usize = ROW_LIMIT * ROW_WORDS;
 
 // Whether row i has fault 9 or 10.
 fn plain_fault(t: &[u32], number: u32, i: usize) -> bool
-    requires { ⌜ 5 * i + 5 ≤ length (now t) ⌝ }
+    requires { ⌜ rowWords * i + rowWords ≤ length (now t) ⌝ }
     ensures { λ o. ⌜ o ≡ plainFault number (now (t .entry)) i ⌝ }
 {
     let r = row_at(t, i);
@@ -31,7 +35,7 @@ fn plain_fault(t: &[u32], number: u32, i: usize) -> bool
 
 // The first of n rows that has fault 9 or 10, or n where none has.
 fn first_plain(t: &[u32], n: usize, number: u32) -> usize
-    requires { ⌜ 5 * n ≤ length (now t) ⌝ }
+    requires { ⌜ rowWords * n ≤ length (now t) ⌝ }
     ensures { λ o. ⌜ o ≡ first (plainFault number (now (t .entry))) n ⌝ }
 {
     let mut i = 0;
@@ -46,7 +50,7 @@ fn first_plain(t: &[u32], n: usize, number: u32) -> usize
 
 // The first of n rows that has the fault of that number, 9 to 12, or n where none has.
 fn first_row_fault(t: &[u32], n: usize, number: u32) -> usize
-    requires { ⌜ (5 * n ≤ length (now t)) × (n ≤ 1024) × (length (now t) % 5 ≡ 0) × (9 ≤ number) ⌝ }
+    requires { ⌜ (rowWords * n ≤ length (now t)) × (n ≤ rowLimit) × (length (now t) % rowWords ≡ 0) × (9 ≤ number) ⌝ }
     ensures { λ o. ⌜ o ≡ first (rowFault (now (t .entry)) number) n ⌝ }
 {
     if number < 11 {
