@@ -4,7 +4,7 @@ use gabzeril_tests::checker::{POOL, RULE};
 
 use crate::calls::Call;
 use crate::inputs::{
-    children_in_one_chain, deep, devices, gathered, late, names_in_one_chain, one_device, roots,
+    children_in_one_chain, deep, devices, early, gathered, late, names_in_one_chain, one_device, roots,
     roots_in_one_chain, A, B, C,
 };
 
@@ -46,6 +46,8 @@ pub const C_TRUE: &str = "rule C true, one device";
 const DEEP: &str = "deep rule, roots";
 /// Every comparison uses the innermost variable: a reading goes down to it with any row.
 const LATE: &str = "late rule, roots";
+/// No comparison uses the innermost variable: a reading need not bind it.
+const EARLY: &str = "early rule, roots";
 
 pub fn all() -> Vec<Case> {
     let mut cases = vec![];
@@ -123,10 +125,10 @@ fn on_one_device(cases: &mut Vec<Case>, rows: u32) {
     }
 }
 
-/// Eight quantifiers over roots around one another, on one device.
+/// Quantifiers over roots around one another, on one device.
 fn on_roots(cases: &mut Vec<Case>, rows: u32) {
     let table = roots(rows, 1);
-    for (rule, on) in [(deep(rows), DEEP), (late(rows), LATE)] {
+    for (rule, on) in [(deep(rows), DEEP), (late(rows), LATE), (early(), EARLY)] {
         cases.push(case(verdict(&rule, table.clone()), on, rows));
         cases.push(case(marks(&rule, table.clone()), on, rows));
         parts(cases, &rule, &table, on);

@@ -157,6 +157,11 @@ pub fn late(rows: u32) -> Vec<u32> {
     rule
 }
 
+/// Some x0, and for every x1: x0 is at most a value that no root exceeds. The inner quantifier is settled whatever row x1 has.
+pub fn early() -> Vec<u32> {
+    vec![6, 1, 0, 1, 5, 2, 0, 1, 9, 0, 1, MOST_VALUE]
+}
+
 #[cfg(test)]
 mod tests {
     use super::*;
@@ -181,7 +186,7 @@ mod tests {
             assert_eq!(check_rule(&deep(rows)), Answer::Done(23));
             assert_eq!(check_rule(&late(rows)), Answer::Done(30));
         }
-        for rule in [&A[..], &B, &C] {
+        for rule in [&A[..], &B, &C, &early()] {
             assert_eq!(check_rule(rule), Answer::Done(rule.len() / 4));
         }
     }
@@ -194,6 +199,7 @@ mod tests {
         assert_eq!(verdict(&C, &one_device(64)), Answer::Done(1));
         assert_eq!(verdict(&deep(64), &roots(64, 1)), Answer::Done(1));
         assert_eq!(verdict(&late(64), &roots(64, 1)), Answer::Done(0));
+        assert_eq!(verdict(&early(), &roots(64, 1)), Answer::Done(1));
     }
 
     #[test]

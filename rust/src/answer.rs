@@ -27,7 +27,7 @@ impl Answer {
     pub fn from_words(number: u32, place: usize, value: usize) -> Answer {
         match (number, place, value) {
             (0, 0, value) => Answer::Done(value),
-            (1..=19, place, 0) => Answer::refused(number, place),
+            (1..=14 | 16..=19, place, 0) => Answer::refused(number, place),
             _ => Answer::Malformed { number, place, value },
         }
     }

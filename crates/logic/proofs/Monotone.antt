@@ -13,7 +13,7 @@ use Rattle.tables.specs.declared.Row.{Row}
 use Rattle.logic.specs.Formulas.{Formula, negation, joined, quantified, compared, Quantifier, every, some, Connective, and, or, implies, Comparison, roots, under, Operand, variable, constant}
 use Rattle.logic.specs.Verdict.{Place, nothing, bound, Bindings, bind, named, hangs, settled}
 use Rattle.logic.specs.Reading.{Reading, certain, undecided, reads, notReading, andReading, connectReading, known, valueRead, operandRead, compareReading, bothReading, underBound, firstTest, secondTest, underElsewhere, overRoots, underPlace, reading}
-use Rattle.logic.specs.Elsewhere.{bodyReading, OneWay}
+use Rattle.logic.specs.Elsewhere.{bodyReading, OneWay, ReadsOneWay}
 
 -- what was certain stays
 data Below : Reading → Reading → Type 0 where
@@ -64,7 +64,7 @@ below-both some h k = below-connect or h k
 
 -- ---- readings of one value
 certain-stays : {x y : Reading} {a : Bool} → Below x y → x ≡ certain a → y ≡ certain a
-certain-stays {a = a} free e = let z : _≡_ {A = ℕ} 0 1 = cc in absurd (omega arith)
+certain-stays free e = let z : _≡_ {A = ℕ} 0 1 = cc in absurd (omega arith)
 certain-stays stay e = e
 
 below-reads : {x y : Reading} (b : Bool) → Below x y → reads b x ≡ true → reads b y ≡ true
@@ -79,9 +79,9 @@ reads-is true (certain a) e = ap certain e
 reads-is false (certain true) e = absurd (false≢true e)
 reads-is false (certain false) e = refl
 
-not-both : (b : Bool) (x : Reading) → reads b x ≡ true → reads (not b) x ≡ true → ⊥
-not-both true x e k = let z : certain true ≡ certain false = sym (reads-is true x e) ∙ reads-is false x k in true≢false (cc)
-not-both false x e k = let z : certain true ≡ certain false = sym (reads-is true x k) ∙ reads-is false x e in true≢false (cc)
+not-both-values : (b : Bool) (x : Reading) → reads b x ≡ true → reads (not b) x ≡ true → ⊥
+not-both-values true x e k = let z : certain true ≡ certain false = sym (reads-is true x e) ∙ reads-is false x k in true≢false (cc)
+not-both-values false x e k = let z : certain true ≡ certain false = sym (reads-is true x k) ∙ reads-is false x e in true≢false (cc)
 
 both-settled : (q : Quantifier) → bothReading q (certain (settled q)) (certain (settled q)) ≡ certain (settled q)
 both-settled every = refl
@@ -93,11 +93,11 @@ all-settled q f (x ∷ xs) h = rw (reads-is (settled q) (f (bound x)) (h x), all
 
 -- ---- quantifiers
 module _ (q : Quantifier) (f g : Place → Reading) (mono : (p p′ : Place) → Known p p′ → Below (f p) (g p′)) where
-  -- what is true with the variable elsewhere is true for each own root
+  -- what settles it elsewhere does so for each row, so none decides
   never-decides : (own : List Row) → secondTest q f ≡ true → firstTest q g own ≡ false
   never-decides own e = either (firstTest q g own)
       (λ k. let w = any-at (λ r. reads (not (settled q)) (g (bound r))) own k in
-      absurd (not-both (settled q) (g (bound (w .0))) (below-reads (settled q) (mono nothing (bound (w .0)) elsewhere) e) (w .2)))
+      absurd (not-both-values (settled q) (g (bound (w .0))) (below-reads (settled q) (mono nothing (bound (w .0)) elsewhere) e) (w .2)))
       (λ k. k)
 
   elsewhere-below : {y : Reading} → (secondTest q f ≡ true → y ≡ certain (settled q)) → Below (underElsewhere q f) y
@@ -127,10 +127,6 @@ module _ (q : Quantifier) (f g : Place → Reading) (mono : (p p′ : Place) →
   under-below n D (same {r = p}) = bound-below (select (λ r. isParent r p && named n r) D)
 
 -- ---- comparisons
-below-refl : (x : Reading) → Below x x
-below-refl undecided = free
-below-refl (certain b) = stay
-
 operand-below : {σ τ : Bindings} → Extends σ τ → (c : Comparison) (m : ℕ) (w : Operand) → Below (compareReading c (known m) (operandRead σ w)) (compareReading c (known m) (operandRead τ w))
 operand-below g c m (variable v) = go (g v)
   where
@@ -168,32 +164,54 @@ module _ (φ : Formula) (D : List Row) (d : ℕ) (b : Bindings) where
       (λ e. rw (never-decides q body body body-below own e))
       (λ e. rw e (and-false (firstTest q body own)))
 
-  pub one-way : OneWay φ D d b
-  one-way = record {
-    kept = λ r a e. certain-stays (body-below nothing (bound r) elsewhere) e;
+  reads-one-way : OneWay φ D d b
+  reads-one-way = record {
+    same-for-each = λ r a e. certain-stays (body-below nothing (bound r) elsewhere) e;
     not-both = never-both;
   }
 
-  -- so a quantifier over roots reads the value that settles it by its second test alone, and the other by its first
-  pub roots-settled : (q : Quantifier) (own : List Row) → reads (settled q) (overRoots q body own) ≡ secondTest q body
-  roots-settled q own = go q (firstTest q body own) (secondTest q body) (never-both q own)
-    where
-      go : (k : Quantifier) (x y : Bool) → (x && y) ≡ false → reads (settled k) (cond x (certain (not (settled k))) (cond y (certain (settled k)) undecided)) ≡ y
-      go k true true h = absurd (true≢false h)
-      go every true false h = refl
-      go some true false h = refl
-      go every false true h = refl
-      go some false true h = refl
-      go every false false h = refl
-      go some false false h = refl
+pub one-way : ReadsOneWay
+one-way φ D d b = reads-one-way φ D d b
 
-pub roots-decided : (q : Quantifier) (f : Place → Reading) (own : List Row) → reads (not (settled q)) (overRoots q f own) ≡ firstTest q f own
-roots-decided q f own = go q (firstTest q f own) (secondTest q f)
-  where
-    go : (k : Quantifier) (x y : Bool) → reads (not (settled k)) (cond x (certain (not (settled k))) (cond y (certain (settled k)) undecided)) ≡ x
-    go every true y = refl
-    go some true y = refl
-    go every false true = refl
-    go some false true = refl
-    go every false false = refl
-    go some false false = refl
+-- ---- a quantifier with its first test x and its second test y: it reads the value that settles it by the second alone, and the other by the
+-- first
+over-tests : Quantifier → Bool → Bool → Reading
+over-tests k x y = cond x (certain (not (settled k))) (cond y (certain (settled k)) undecided)
+
+settled-by-second : (k : Quantifier) (x y : Bool) → (x && y) ≡ false → reads (settled k) (over-tests k x y) ≡ y
+unfolding over-tests
+settled-by-second k true true h = absurd (true≢false h)
+settled-by-second every true false h = refl
+settled-by-second some true false h = refl
+settled-by-second every false true h = refl
+settled-by-second some false true h = refl
+settled-by-second every false false h = refl
+settled-by-second some false false h = refl
+
+decided-by-first : (k : Quantifier) (x y : Bool) → reads (not (settled k)) (over-tests k x y) ≡ x
+unfolding over-tests
+decided-by-first every true y = refl
+decided-by-first some true y = refl
+decided-by-first every false true = refl
+decided-by-first some false true = refl
+decided-by-first every false false = refl
+decided-by-first some false false = refl
+
+pub roots-settled : (q : Quantifier) (φ : Formula) (D : List Row) (d : ℕ) (b : Bindings) (own : List Row)
+    → reads (settled q) (overRoots q (bodyReading φ D d b) own) ≡ secondTest q (bodyReading φ D d b)
+unfolding over-tests
+roots-settled q φ D d b own =
+    settled-by-second q (firstTest q (bodyReading φ D d b) own) (secondTest q (bodyReading φ D d b)) (one-way φ D d b .not-both q own)
+
+module _ (q : Quantifier) (f : Place → Reading) where
+  pub roots-decided : (own : List Row) → reads (not (settled q)) (overRoots q f own) ≡ firstTest q f own
+  unfolding over-tests
+  roots-decided own = decided-by-first q (firstTest q f own) (secondTest q f)
+
+  pub elsewhere-settled : reads (settled q) (underElsewhere q f) ≡ secondTest q f
+  unfolding over-tests
+  elsewhere-settled = settled-by-second q false (secondTest q f) refl
+
+  pub elsewhere-decided : reads (not (settled q)) (underElsewhere q f) ≡ false
+  unfolding over-tests
+  elsewhere-decided = decided-by-first q false (secondTest q f)

@@ -81,9 +81,9 @@ never-in (quantified q o n φ) D d K r =
     (never-in φ D (suc d) (chainsWith d (reach D o n d K) K) r)
 never-in (compared c v w) D d K r = refl
 
-never : (F : Formula) (D : List Row) → contradiction F D ≡ false
+never-met : (F : Formula) (D : List Row) → contradiction F D ≡ false
 unfolding contradiction
-never F D = any-none (contradictsIn F D 0 noChains) D (λ r m. never-in F D 0 noChains r)
+never-met F D = any-none (contradictsIn F D 0 noChains) D (λ r m. never-in F D 0 noChains r)
 
 -- ---- the former answer, and the output after it
 module _ (rule table : List ℕ) (mode : ℕ) where
@@ -103,16 +103,16 @@ module _ (rule table : List ℕ) (mode : ℕ) where
   pub formerOut : List ℕ → List ℕ
   formerOut out = output (formerAnswer (length out)) (wordsOf sent) out
 
-  passes : (m : Bool) (next : Answer) → unless (not (m && contradiction (formula rule) (rows table))) 15 next ≡ next
-  passes true next = rw (never (formula rule) (rows table))
-  passes false next = refl
+  no-refusal : (m : Bool) (next : Answer) → unless (not (m && contradiction (formula rule) (rows table))) 15 next ≡ next
+  no-refusal true next = rw (never-met (formula rule) (rows table))
+  no-refusal false next = refl
 
   -- on all inputs, in every mode
   pub answer-as-before : (room : ℕ) → partAnswer rule table mode room ≡ formerAnswer room
   unfolding partAnswer formerAnswer
   answer-as-before room =
       ap (λ (z : Answer). andThen (checkRule rule) (andThen (checkTable table) (unless (leb 1 mode && leb mode 3) 13 (unlessAny (otherDevice table) 14 (rowCount table) z))))
-      (sym (passes (eqb mode 3) (fits room)))
+      (sym (no-refusal (eqb mode 3) (fits room)))
 
   pub output-as-before : (out : List ℕ) → partOut rule table mode out ≡ formerOut out
   unfolding partOut formerOut

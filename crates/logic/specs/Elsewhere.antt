@@ -12,9 +12,12 @@ use Rattle.logic.specs.Reading.{Reading, certain, firstTest, secondTest,
 abbrev pub bodyReading : Formula → List Row → ℕ → Bindings → Place → Reading
 bodyReading φ D d b p = reading φ D (suc d) (bind d p b)
 
--- it is claimed of every formula and every list of rows, accepted or not
 pub record OneWay (φ : Formula) (D : List Row) (d : ℕ) (b : Bindings) : Type 0 where
   -- what the body reads with the variable elsewhere, true or false, it reads for each row, and so for each own root
-  pub kept : (r : Row) (a : Bool) → bodyReading φ D d b nothing ≡ certain a → bodyReading φ D d b (bound r) ≡ certain a
+  pub same-for-each : (r : Row) (a : Bool) → bodyReading φ D d b nothing ≡ certain a → bodyReading φ D d b (bound r) ≡ certain a
   -- so one quantifier over roots does not meet both its first and its second test, whatever roots are its own
   pub not-both : (q : Quantifier) (own : List Row) → (firstTest q (bodyReading φ D d b) own && secondTest q (bodyReading φ D d b)) ≡ false
+
+-- the claim: so it is for every formula and every list of rows, accepted or not, whatever the variables around the quantifier are bound to
+abbrev pub ReadsOneWay : Type 0
+ReadsOneWay = (φ : Formula) (D : List Row) (d : ℕ) (b : Bindings) → OneWay φ D d b

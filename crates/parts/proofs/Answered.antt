@@ -74,10 +74,6 @@ module _ (rule t : List ℕ) (m : ℕ) (next : Answer) where
         request-done h = sym (after-mode ∙ ap (λ (b : Bool). cond b (Refused 14 i) next) (le-ltb i n h))
 
 -- a next answer comes behind them
-next-unless : (ok : Bool) (k x : ℕ) (next : Answer) → unless ok k next ≡ andThen (unless ok k (Done x)) next
-next-unless true k x next = refl
-next-unless false k x next = refl
-
 next-any : (b : Bool) (k p x : ℕ) (next : Answer) → cond b (Refused k p) next ≡ andThen (cond b (Refused k p) (Done x)) next
 next-any true k p x next = refl
 next-any false k p x next = refl

@@ -2,7 +2,7 @@
 -- nothing.
 use Prim.Native.Nat.{ℕ, zero, suc, _≤_}
 use mathlib.Core.Path.{_≡_, refl, sym, ap, ap₂, _∙_}
-use mathlib.Core.Bool.{Bool, true, false, not, cond, _&&_, _||_, Bool·beq, true≢false, false≢true}
+use mathlib.Core.Bool.{Bool, true, false, not, cond, _&&_, _||_, Bool·beq, Bool·not-not, true≢false, false≢true}
 use mathlib.Core.List.{List, [], _∷_, _++_}
 use native.Mathlib.Omega.{arith}
 use lib.Dec.{eqb, ltb}
@@ -70,21 +70,17 @@ reads-and false undecided (certain true) = refl
 reads-and false undecided (certain false) = refl
 reads-and false undecided undecided = refl
 
-not-twice : (w : Bool) → not (not w) ≡ w
-not-twice true = refl
-not-twice false = refl
-
 reads-or : (w : Bool) (x y : Reading) → reads w (notReading (andReading (notReading x) (notReading y))) ≡ together (not w) (reads w x) (reads w y)
 reads-or w x y =
     reads-not w (andReading (notReading x) (notReading y))
     ∙ reads-and (not w) (notReading x) (notReading y)
-    ∙ ap₂ (together (not w)) (reads-not (not w) x ∙ ap (λ (v : Bool). reads v x) (not-twice w)) (reads-not (not w) y ∙ ap (λ (v : Bool). reads v y) (not-twice w))
+    ∙ ap₂ (together (not w)) (reads-not (not w) x ∙ ap (λ (v : Bool). reads v x) (Bool·not-not w)) (reads-not (not w) y ∙ ap (λ (v : Bool). reads v y) (Bool·not-not w))
 
 reads-implies : (w : Bool) (x y : Reading) → reads w (notReading (andReading x (notReading y))) ≡ together (not w) (reads (not w) x) (reads w y)
 reads-implies w x y =
     reads-not w (andReading x (notReading y))
     ∙ reads-and (not w) x (notReading y)
-    ∙ ap (together (not w) (reads (not w) x)) (reads-not (not w) y ∙ ap (λ (v : Bool). reads v y) (not-twice w))
+    ∙ ap (together (not w) (reads (not w) x)) (reads-not (not w) y ∙ ap (λ (v : Bool). reads v y) (Bool·not-not w))
 
 -- equal to true, or to false
 with-true : (w : Bool) → Bool·beq w true ≡ w
@@ -138,14 +134,14 @@ module _ (q : Quantifier) (body : Place → Reading) (w : Bool) where
       ∙ together-last all (reads w (body (bound r)))
 
 -- the first test passes where the own roots together decide
-pub first-test : (q : Quantifier) (body : Place → Reading) (own : List Row) → firstTest q body own ≡ reads (not (settled q)) (underBound q body own)
-first-test q body [] = sym (none q)
+pub first-test-by-rows : (q : Quantifier) (body : Place → Reading) (own : List Row) → firstTest q body own ≡ reads (not (settled q)) (underBound q body own)
+first-test-by-rows q body [] = sym (none q)
   where
     none : (k : Quantifier) → reads (not (settled k)) (certain (settled k)) ≡ false
     none every = refl
     none some = refl
-first-test q body (x ∷ xs) =
-    ap (λ (z : Bool). reads (not (settled q)) (body (bound x)) || z) (first-test q body xs)
+first-test-by-rows q body (x ∷ xs) =
+    ap (λ (z : Bool). reads (not (settled q)) (body (bound x)) || z) (first-test-by-rows q body xs)
     ∙ ap (λ (a : Bool). together a (reads (not (settled q)) (body (bound x))) (reads (not (settled q)) (underBound q body xs))) (sym (any-of q))
     ∙ sym (reads-both q (not (settled q)) (body (bound x)) (underBound q body xs))
   where

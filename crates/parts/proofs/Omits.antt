@@ -31,7 +31,7 @@ use Rattle.parts.specs.declared.chains.Chain.{Chain}
 use Rattle.parts.proofs.Climbs.{chains-same}
 
 -- ---- one quantifier
-module _ {rule t : List ℕ} {c : Chain} {k body : ℕ} (ready : ReadyBody rule t c k body) (m : ℕ) where
+module _ (rule t : List ℕ) (c : Chain) (k body m : ℕ) where
   abbrev lets : Bindings → Bool
   lets = letsOut m (quantifierOf k) (formulaAt rule body) (rows t) (c .bound .depth)
 
@@ -185,17 +185,13 @@ module _ {rule t parents : List ℕ} {by : Binders} {e i : ℕ} (ready : ReadyOm
 
     -- how the quantifier reaches the row
     module _ {c : Chain} (climbed : Climbed rule t (by .entry) (by .depth) e i c) where
-      pub body-ready : ReadyBody rule t c (x .kind) (x .a)
-      body-ready = record {
-        over-four = high;
-        below-seven = low;
-        ready = λ f. record {
-          rule-accepted = ready .rule-accepted;
-          pool-accepted = ready .table-accepted;
-          inside = body-later .1;
-          depth-is = omega (arith, climbed .deep f, opens .body-depth high low, ready .depth-is);
-          placed = climbed .placed;
-        };
+      pub body-ready : ReadyBody rule t c (x .a)
+      body-ready f = record {
+        rule-accepted = ready .rule-accepted;
+        pool-accepted = ready .table-accepted;
+        inside = body-later .1;
+        depth-is = omega (arith, climbed .deep f, opens .body-depth high low, ready .depth-is);
+        placed = climbed .placed;
       }
 
       abbrev lets-at : ℕ → Bindings → Bool
@@ -212,9 +208,9 @@ module _ {rule t parents : List ℕ} {by : Binders} {e i : ℕ} (ready : ReadyOm
       inner : Bool
       inner = omittedIn m (formulaAt rule (x .a)) (rows t) (suc (by .depth)) (chainsWith (by .depth) (reachAt rule t (by .entry) (by .depth) e) chains) (rowAt t i)
 
-      both-tests : omittedAt m rule t by e i ≡ (all (lets-at (c .bound .depth)) (chainOf t c) && inner)
+      own-then-body : omittedAt m rule t by e i ≡ (all (lets-at (c .bound .depth)) (chainOf t c) && inner)
       unfolding inner
-      both-tests =
+      own-then-body =
           ap (λ (F : Formula). omittedIn m F (rows t) (by .depth) chains (rowAt t i)) (quantified-formula rule e x opens high low)
           ∙ omitted-quantified m (rows t) (by .depth) chains (rowAt t i) (quantifierOf (x .kind)) (overOf (x .b)) (x .c) (formulaAt rule (x .a))
           ∙ ap (λ (z : Entry). all (lets-at (suc (by .depth))) (reach (rows t) (overOf (z .b)) (z .c) (by .depth) chains (rowAt t i))
@@ -223,7 +219,7 @@ module _ {rule t parents : List ℕ} {by : Binders} {e i : ℕ} (ready : ReadyOm
 
       module _ {s : Bool} (s-is : s ≡ all (lets-at (c .bound .depth)) (chainOf t c)) where
         pub omit-own : s ≡ false → false ≡ omittedAt m rule t by e i
-        omit-own h = side-false (all (lets-at (c .bound .depth)) (chainOf t c)) inner (sym s-is ∙ h) ∙ sym both-tests
+        omit-own h = side-false (all (lets-at (c .bound .depth)) (chainOf t c)) inner (sym s-is ∙ h) ∙ sym own-then-body
 
         module _ {by′ : Binders} (by-is : by′ ≡ withBinder by e) where
           inside : by .depth < length (by .entry)
@@ -269,4 +265,4 @@ module _ {rule t parents : List ℕ} {by : Binders} {e i : ℕ} (ready : ReadyOm
               ∙ ap (λ (n : ℕ). omittedIn m (formulaAt rule (x .a)) (rows t) n (chainsBelow rule t (set (by .entry) (by .depth) e) n) (rowAt t i)) (add-one (by .depth))
               ∙ ap (λ (K : Chains). omittedIn m (formulaAt rule (x .a)) (rows t) (suc (by .depth)) K (rowAt t i)) chains-with
               ∙ side-true (all (lets-at (c .bound .depth)) (chainOf t c)) inner (sym s-is ∙ h)
-              ∙ sym both-tests
+              ∙ sym own-then-body

@@ -2,7 +2,7 @@
 -- settled by its body elsewhere alone and decided by its own roots alone. Assumes nothing.
 use Prim.Native.Nat.{ℕ, zero, suc, _-_, _<_, _≤_}
 use mathlib.Core.Path.{_≡_, refl, sym, ap, ap₂, subst, _∙_}
-use mathlib.Core.Bool.{Bool, true, false, not, cond, _&&_, Bool·beq, true≢false}
+use mathlib.Core.Bool.{Bool, true, false, not, _&&_, Bool·beq, Bool·not-not, and-true, true≢false}
 use mathlib.Core.List.{List}
 use native.Mathlib.Omega.{arith}
 use lib.ListN.{getD}
@@ -13,11 +13,11 @@ use Rattle.tables.specs.Tables.{isParent}
 use Rattle.tables.specs.declared.Row.{Row}
 use Rattle.tables.specs.declared.Entry.{Entry}
 use Rattle.tables.proofs.Accepted.{behind, few-rows}
-use Rattle.logic.specs.Formulas.{Formula, Quantifier, every, some, overOf, formulaAt}
+use Rattle.logic.specs.Formulas.{Formula, Quantifier, overOf, formulaAt}
 use Rattle.logic.specs.Verdict.{Place, nothing, bound, named, hangs, ranges, settled}
 use Rattle.logic.specs.Reading as meaning
 use Rattle.logic.proofs.Walks.{select-span}
-use Rattle.logic.proofs.Monotone.{roots-settled, roots-decided}
+use Rattle.logic.proofs.Monotone.{one-way, roots-settled, roots-decided, elsewhere-settled, elsewhere-decided}
 use Rattle.engine.specs.Places.{bindAt}
 use Rattle.engine.specs.Ready.{quantifierOf, meant, rangesAt, Ready, ReadyRows, rangedFrom}
 use Rattle.engine.specs.declared.bindings.Bindings.{Bindings}
@@ -26,28 +26,9 @@ use Rattle.engine.proofs.Opened.{quantified-formula}
 use Rattle.engine.proofs.Steps as entries
 use Rattle.parts.specs.Device.{placeUnder, readsAt, bodyAt, sweepsAt}
 use Rattle.parts.specs.Reaching.{Ends}
-use Rattle.parts.proofs.Asking.{first-test}
+use Rattle.parts.proofs.Asking.{first-test-by-rows}
 use Rattle.parts.proofs.Spans.{at-nothing, at-row}
 use Rattle.parts.proofs.Steps.{SweepCall, settles, body-reads}
-
--- ---- under an elsewhere variable
-elsewhere-settled : (q : Quantifier) (f : Place → meaning.Reading) → meaning.reads (settled q) (meaning.underElsewhere q f) ≡ meaning.secondTest q f
-elsewhere-settled q f = go q (meaning.secondTest q f)
-  where
-    go : (k : Quantifier) (y : Bool) → meaning.reads (settled k) (cond y (meaning.certain (settled k)) meaning.undecided) ≡ y
-    go every true = refl
-    go some true = refl
-    go every false = refl
-    go some false = refl
-
-elsewhere-decided : (q : Quantifier) (f : Place → meaning.Reading) → meaning.reads (not (settled q)) (meaning.underElsewhere q f) ≡ false
-elsewhere-decided q f = go q (meaning.secondTest q f)
-  where
-    go : (k : Quantifier) (y : Bool) → meaning.reads (not (settled k)) (cond y (meaning.certain (settled k)) meaning.undecided) ≡ false
-    go every true = refl
-    go some true = refl
-    go every false = refl
-    go some false = refl
 
 -- ---- an entry that has been read
 other-value : (x y : Bool) → Bool·beq x y ≡ false → x ≡ not y
@@ -91,19 +72,19 @@ module _ {rule t : List ℕ} {b : Bindings} {e : ℕ} (ready : ReadyRows rule t 
         ∙ quantified-reads w
       where
         go : (u : ℕ) → placeUnder (b .row) u ≡ 0 → meaning.reads (settled q-at) (over-reading u) ≡ meaning.secondTest q-at body
-        go zero z = roots-settled (formulaAt rule (entryAt rule e .a)) (rows t) (b .depth) (meant t b) q-at own
+        go zero z = roots-settled q-at (formulaAt rule (entryAt rule e .a)) (rows t) (b .depth) (meant t b) own
         go (suc v) z =
             ap (λ (P : Place). meaning.reads (settled q-at) (meaning.underPlace q-at P body own)) (at-nothing t (b .row) v (getD (b .row) v 0) refl z)
             ∙ elsewhere-settled q-at body
 
     module _ (h : Bool·beq w (eqb (x .kind) 5) ≡ false) where
-      decides : w ≡ not (settled q-at)
-      decides = other-value w (eqb (x .kind) 5) h ∙ ap not (settles ready x-is)
+      deciding : w ≡ not (settled q-at)
+      deciding = other-value w (eqb (x .kind) 5) h ∙ ap not (settles ready x-is)
 
       pub none-reads : (x .b ≡ 0 → ⊥) → false ≡ readsAt rule t b e w
       none-reads u =
           sym (go (x .b) u (sym p-is ∙ none))
-          ∙ ap (λ (v : Bool). meaning.reads v (over-reading (x .b))) (sym decides)
+          ∙ ap (λ (v : Bool). meaning.reads v (over-reading (x .b))) (sym deciding)
           ∙ quantified-reads w
         where
           go : (u : ℕ) → (u ≡ 0 → ⊥) → placeUnder (b .row) u ≡ 0 → meaning.reads (not (settled q-at)) (over-reading u) ≡ false
@@ -112,12 +93,27 @@ module _ {rule t : List ℕ} {b : Bindings} {e : ℕ} (ready : ReadyRows rule t 
               ap (λ (P : Place). meaning.reads (not (settled q-at)) (meaning.underPlace q-at P body own)) (at-nothing t (b .row) v (getD (b .row) v 0) refl z)
               ∙ elsewhere-decided q-at body
 
+      -- what settles it elsewhere leaves nothing for an own root to decide
+      pub spared-reads : x .b ≡ 0 → {b′ : Bindings} → b′ ≡ bindAt b 0 → {r : Bool} → r ≡ readsAt rule t b′ (x .a) (not w) → r ≡ true → false ≡ readsAt rule t b e w
+      spared-reads z b-is r-is f =
+          let settles-elsewhere : meaning.secondTest q-at body ≡ true
+          = ap (λ (v : Bool). meaning.reads v (body nothing)) (sym (ap not deciding ∙ Bool·not-not (settled q-at)))
+          ∙ sym (body-reads ready x-is (not w) 0 b-is) ∙ sym r-is ∙ f in
+          sym (roots-decided q-at body own ∙ no-first settles-elsewhere)
+          ∙ ap₂ (λ (v : Bool) (u : ℕ). meaning.reads v (over-reading u)) (sym deciding) (sym z)
+          ∙ quantified-reads w
+        where
+          no-first : meaning.secondTest q-at body ≡ true → meaning.firstTest q-at body own ≡ false
+          no-first g =
+              sym (and-true (meaning.firstTest q-at body own)) ∙ ap (λ (y : Bool). meaning.firstTest q-at body own && y) (sym g)
+              ∙ one-way (formulaAt rule (entryAt rule e .a)) (rows t) (b .depth) (meant t b) .not-both q-at own
+
       pub own-reads : x .b ≡ 0 → {m : ℕ} → m ≡ rowCount t → {s : Bool} → s ≡ sweepsAt rule t b e w 0 m → s ≡ readsAt rule t b e w
       own-reads z m-is s-is =
           s-is ∙ ap (sweepsAt rule t b e w 0) m-is
-          ∙ ap (λ (v : Bool). meaning.reads v (meaning.underBound q-at body own)) decides
-          ∙ sym (roots-decided q-at body own ∙ first-test q-at body own)
-          ∙ ap₂ (λ (v : Bool) (u : ℕ). meaning.reads v (over-reading u)) (sym decides) (sym z)
+          ∙ ap (λ (v : Bool). meaning.reads v (meaning.underBound q-at body own)) deciding
+          ∙ sym (roots-decided q-at body own ∙ first-test-by-rows q-at body own)
+          ∙ ap₂ (λ (v : Bool) (u : ℕ). meaning.reads v (over-reading u)) (sym deciding) (sym z)
           ∙ quantified-reads w
 
   pub roots-call : x .b ≡ 0 → {k : ℕ} → k ≡ rowCount t → {m : ℕ} → entry-measure rule t e ≡ m → SweepCall rule t b e 0 k m

@@ -1,7 +1,7 @@
 -- The rows that are written: their number, their words row by row, and that they are 01's part. Assumes nothing.
 use Prim.Native.Nat.{ℕ, zero, suc, _+_, _-_, _<_, _≤_}
 use mathlib.Core.Path.{_≡_, refl, sym, ap, ap₂, fun-ext, _∙_}
-use mathlib.Core.Bool.{Bool, true, false, not, cond, _&&_}
+use mathlib.Core.Bool.{Bool, true, false, not, cond, _&&_, Bool·not-not}
 use mathlib.Core.List.{List, [], _∷_, _++_}
 use native.Mathlib.Numerals.{add-one}
 use native.Mathlib.Omega.{arith}
@@ -131,10 +131,6 @@ module _ (t kept out₀ : List ℕ) (n : ℕ) where
   send-end out at i s h = let z : n - i ≡ 0 = omega arith in sym (s .rest ∙ ap (λ (k : ℕ). sets out at (wordsOf (rowsSent t kept i k))) z)
 
 -- ---- the part
-double : (b : Bool) → not (not b) ≡ b
-double true = refl
-double false = refl
-
 pub part-is : (F : Formula) (m : ℕ) (D : List Row) → partOf F m D ≡ select (stays m F D) D
 unfolding partOf branchPart fullPart partBy stays
 part-is F m D = go (eqb m 1) (eqb m 2)
@@ -147,7 +143,7 @@ part-is F m D = go (eqb m 1) (eqb m 2)
 
     go : (b c : Bool) → cond b D (cond c (by (reached F D)) (by (λ r. not (spare F D r)))) ≡ select (λ r. cond b true (not (out c r) && all (λ s. not (out c s)) (ancestors D r))) D
     go true c = sym (select-all (λ r. true) D (λ r i. refl))
-    go false true = ap by (fun-ext (λ r. sym (double (reached F D r))))
+    go false true = ap by (fun-ext (λ r. sym (Bool·not-not (reached F D r))))
     go false false = refl
 
 module _ (rule t kept : List ℕ) (m : ℕ) (keeps : Keeps rule t m kept (rowCount t)) where

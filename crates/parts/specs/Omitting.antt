@@ -27,10 +27,9 @@ omittedIn m φ D d K r = cond (eqb m 2) (not (reachedIn φ D d K r)) (spareIn φ
 abbrev pub letsOut : ℕ → Quantifier → Formula → List Row → ℕ → Bindings → Bool
 letsOut m q φ D d b = cond (eqb m 2) false (reads (settled q) (reading φ D d b))
 
-pub record ReadyBody (rule t : List ℕ) (c : Chain) (kind body : ℕ) : Type 0 where
-  pub over-four : 5 ≤ kind
-  pub below-seven : kind ≤ 6
-  pub ready : c .found ≡ true → Ready rule t (c .bound) body
+-- where a quantifier reaches the row, its body can be read with the bindings along the chain
+abbrev pub ReadyBody : List ℕ → List ℕ → Chain → ℕ → Type 0
+ReadyBody rule t c body = c .found ≡ true → Ready rule t (c .bound) body
 
 -- an entry under the quantifiers `by`
 abbrev pub omittedAt : ℕ → List ℕ → List ℕ → Binders → ℕ → ℕ → Bool

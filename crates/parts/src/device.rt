@@ -58,6 +58,7 @@ pub(crate) fn reads(
         return reads(rule, table, ends, b, a, !wanted);
     }
     if e.kind < 5 {
+        // Both sides have to be as asked, or one; implies asks its left side for the other value.
         let both = wanted == (e.kind == 2);
         let left = reads(rule, table, ends, b, a, wanted == (e.kind < 4));
         if left == both {
@@ -73,11 +74,15 @@ pub(crate) fn reads(
         let end = ends[place - 1] as usize;
         return sweep(rule, table, ends, b, entry, wanted, place, end - place);
     }
-    // Its rows may be elsewhere: it is settled by its body with the variable elsewhere, and decided by an own root, each alone.
+    // Its rows may be elsewhere: only its body with the variable elsewhere settles it, and only an own root decides it.
     if wanted == (e.kind == 5) {
         return reads(rule, table, ends, b.bind(0), a, wanted);
     }
     if e.b != 0 {
+        return false;
+    }
+    // What settles it elsewhere does so for each own root: then none is looked at.
+    if reads(rule, table, ends, b.bind(0), a, !wanted) {
         return false;
     }
     sweep(rule, table, ends, b, entry, wanted, 0, row_count(table))

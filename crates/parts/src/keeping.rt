@@ -27,8 +27,8 @@ fn parent_left_out(parents: &[u16], kept: &[u8], row: usize) -> bool
     kept[parent] == 0
 }
 
-// 1 if a row stays, since it passes the mode's test and is a root or its parent stays; else 0.
-fn row_stays(
+// 1 if a row stays, else 0. It stays if it passes the mode's test, and it is a root or its parent stays.
+fn kept_byte(
     rule: &[u32],
     table: &[u32],
     parents: &[u16],
@@ -66,7 +66,7 @@ pub(crate) fn kept_rows(rule: &[u32], table: &[u32], mode: u32) -> [u8; ROW_LIMI
     let mut kept = [0u8; ROW_LIMIT];
     let mut i = 0;
     while i < n {
-        kept[i] = row_stays(rule, table, &parents, &ends, &kept, mode, i);
+        kept[i] = kept_byte(rule, table, &parents, &ends, &kept, mode, i);
         i += 1;
     }
     kept

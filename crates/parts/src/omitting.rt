@@ -22,7 +22,7 @@ fn lets_out(
     body: usize,
     mode: u32,
 ) -> bool
-    requires { ⌜ ReadyBody (now rule) (now table) chain kind body ⌝ }
+    requires { ⌜ ReadyBody (now rule) (now table) chain body ⌝ }
     requires { ⌜ Ends (now table) (now ends) ⌝ }
     ensures { λ r. ⌜ r ≡ all (letsOut mode (quantifierOf kind) (formulaAt (now (rule .entry)) body) (rows (now (table .entry))) (chain .bound .depth)) (chainOf (now (table .entry)) chain) ⌝ }
 {

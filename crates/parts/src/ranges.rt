@@ -1,4 +1,4 @@
-// The rows that a quantifier ranges over, once its parent's place is known: 0 for roots, else 1 + the parent's number.
+// The rows that a quantifier ranges over, by the place of their parent: 0 for roots, else 1 + the parent's number.
 use super::words::row_at;
 use engine::Bindings;
 ghost use mathlib.Core.Path.{_≡_};
@@ -17,7 +17,7 @@ pub(crate) fn place_of(b: Bindings, variable: usize) -> usize
     b.row[variable]
 }
 
-// The place of the parent that b of a quantifier names.
+// The place of the parent that b of a quantifier names: 0 for roots, and where it is elsewhere.
 pub(crate) fn place_under(b: Bindings, under: usize) -> usize
     requires { ⌜ under ≤ nestingLimit ⌝ }
     ensures { λ r. ⌜ r ≡ placeUnder (b .row) under ⌝ }

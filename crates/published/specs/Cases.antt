@@ -80,9 +80,9 @@ everyHasOne = entry 5 1 0 1 ++ entry 6 2 1 2 ++ entry 7 1 1 1
 abbrev pub everyBelowHasOne : List ℕ
 everyBelowHasOne = entry 5 1 0 9 ++ entry 5 2 1 1 ++ entry 6 3 2 2 ++ entry 7 2 1 1
 
--- kind 5 or 6 over a, then for every b: a is 5
-abbrev pub forEveryB : ℕ → List ℕ
-forEveryB kind = entry kind 1 0 1 ++ entry 5 2 0 2 ++ entry 7 0 1 5
+-- one kind over a, one over b, and then: a is 5
+abbrev pub aThenB : ℕ → ℕ → List ℕ
+aThenB kindA kindB = entry kindA 1 0 1 ++ entry kindB 2 0 2 ++ entry 7 0 1 5
 
 -- no router (name 1) has the same address (name 3) for more than one interface (name 2)
 abbrev pub ruleAddresses : List ℕ
@@ -207,12 +207,17 @@ cases =
     ∷ spares ruleA D1 (key 1 1 ++ key 1 3)
     ∷ judged ruleA D1 true (key 1 1 ++ key 1 2)
     ∷ judged ruleA (row 1 1 0 1 11) false (key 1 1)
-    -- a reading over roots: what is false elsewhere is false for each own b, and stays open without one
-    ∷ sends (forEveryB 6) 3 (row 1 1 0 1 6) (row 1 1 0 1 6)
-    ∷ sends (forEveryB 6) 3 (row 1 1 0 1 6 ++ row 1 2 0 2 9) (row 1 2 0 2 9)
-    -- what is true elsewhere is true with an own b and without one
-    ∷ sends (forEveryB 5) 3 (row 1 1 0 1 5) []
-    ∷ sends (forEveryB 5) 3 (row 1 1 0 1 5 ++ row 1 2 0 2 9) (row 1 2 0 2 9)
+    -- a reading over roots. For every b: what is false elsewhere is false for each own b, and stays open without one; what is true
+    -- elsewhere is true with an own b and without one
+    ∷ sends (aThenB 6 5) 3 (row 1 1 0 1 6) (row 1 1 0 1 6)
+    ∷ sends (aThenB 6 5) 3 (row 1 1 0 1 6 ++ row 1 2 0 2 9) (row 1 2 0 2 9)
+    ∷ sends (aThenB 5 5) 3 (row 1 1 0 1 5) []
+    ∷ sends (aThenB 5 5) 3 (row 1 1 0 1 5 ++ row 1 2 0 2 9) (row 1 2 0 2 9)
+    -- for some b, true and false exchanged
+    ∷ sends (aThenB 5 6) 3 (row 1 1 0 1 5) (row 1 1 0 1 5)
+    ∷ sends (aThenB 5 6) 3 (row 1 1 0 1 5 ++ row 1 2 0 2 9) (row 1 2 0 2 9)
+    ∷ sends (aThenB 6 6) 3 (row 1 1 0 1 6) []
+    ∷ sends (aThenB 6 6) 3 (row 1 1 0 1 6 ++ row 1 2 0 2 9) (row 1 2 0 2 9)
     -- paths of two pairs
     ∷ judged ruleAddresses (router 77) false (key 1 1 ++ key 1 2 ++ key 1 3 ++ key 1 4 ++ key 1 5)
     ∷ judged ruleAddresses (router 78) true (key 1 1 ++ key 1 2 ++ key 1 3 ++ key 1 4 ++ key 1 5)

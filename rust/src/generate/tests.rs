@@ -1,7 +1,7 @@
 //! What the generators promise.
 
 use super::*;
-use crate::checker::{accepted_rule, accepted_table, check_rule, check_table, Entry};
+use crate::checker::{accepted_rule, accepted_table, check_rule, check_table, part, Entry};
 use crate::random::Random;
 
 #[test]
@@ -15,10 +15,11 @@ fn rules_and_pools_are_accepted() {
     }
 }
 
-/// In most rules quantifiers over roots stand around one another, in many also beside one another.
+/// In most rules quantifiers over roots stand around one another, in many also beside one another, and the reading of bodies often makes
+/// a row spare.
 #[test]
 fn quantifiers_over_roots_meet() {
-    let (mut around, mut beside) = (0, 0);
+    let (mut around, mut beside, mut spare) = (0, 0, 0);
     for seed in 0..3_000 {
         let (rule, table) = rule_and_roots(&mut Random::new(seed), 20_000);
         let entries = accepted_rule(&rule).expect("an accepted rule");
@@ -28,11 +29,14 @@ fn quantifiers_over_roots_meet() {
             (2..=12).contains(&rows.iter().filter(|row| row.is_root()).count()),
             "seed {seed}: {table:?}"
         );
+        spare += (part(&rule, &table, 2, &mut vec![0; table.len()])
+            != part(&rule, &table, 3, &mut vec![0; table.len()])) as u32;
         let nested = nested_over_roots(&entries, 0);
         around += (nested > 1) as u32;
         beside += (entries.iter().filter(|entry| is_over_roots(entry)).count() > nested) as u32;
     }
     assert!(around >= 1_500 && beside >= 1_000, "{around} around, {beside} beside");
+    assert!(spare >= 500, "only {spare} devices keep a reached row to themselves");
 }
 
 fn is_over_roots(entry: &Entry) -> bool {

@@ -152,59 +152,58 @@ reads-sub-end t c =
 
 reads-mul-end : (t : ℕ) → reads-lts.Need-mul-end (reads-claims t) (reads-at t) reads′.Post
 reads-mul-end t c =
-    let s = c .before .before .before .before .before .before .before .before .before .before .before .before .before .before in
+    let p = c .before in
+    let s = p .before .before .before .before .before .before .before .before .before .before .before .before .before in
     let ready = s .pre .1 .0 in
-    let x-is = c .before .before .before .before .before .before .before .before .before .before .entry-at .ensures in
-    let q = quantifiers.rows-ready ready x-is (c .before .before .before .before .before .if2 .left) (c .before .before .before .if4 .left) in
-    omega (arith, c .if5 .taken, quantifiers.place-few q x-is (c .before .place-under .ensures) (c .if5 .taken))
+    let x-is = p .before .before .before .before .before .before .before .before .before .entry-at .ensures in
+    let q = quantifiers.rows-ready ready x-is (p .before .before .before .before .if2 .left) (p .before .before .if4 .left) in
+    omega (arith, c .if5 .taken, quantifiers.place-few q x-is (p .place-under .ensures) (c .if5 .taken))
 
 reads-shared-slice-read-end : (t : ℕ) → reads-lts.Need-shared-slice-read-end (reads-claims t) (reads-at t) reads′.Post
 reads-shared-slice-read-end t c =
-    let s = c .before .before .before .before .before .before .before .before .before .before .before .before .before .before .before in
+    let p = c .before .before in
+    let s = p .before .before .before .before .before .before .before .before .before .before .before .before .before in
     let ready = s .pre .1 .0 in
-    let x-is = c .before .before .before .before .before .before .before .before .before .before .before .entry-at .ensures in
-    let q = quantifiers.rows-ready ready x-is (c .before .before .before .before .before .before .if2 .left)
-    (c .before .before .before .before .if4 .left) in
-    omega
-    (arith, c .before .if5 .taken, quantifiers.place-few q x-is (c .before .before .place-under .ensures) (c .before .if5 .taken), s .pre .1 .1 .sized)
+    let x-is = p .before .before .before .before .before .before .before .before .before .entry-at .ensures in
+    let q = quantifiers.rows-ready ready x-is (p .before .before .before .before .if2 .left) (p .before .before .if4 .left) in
+    omega (arith, c .before .if5 .taken, quantifiers.place-few q x-is (p .place-under .ensures) (c .before .if5 .taken), s .pre .1 .1 .sized)
 
 reads-cast-end : (t : ℕ) → reads-lts.Need-cast-end (reads-claims t) (reads-at t) reads′.Post
 reads-cast-end t c =
-    let s = c .before .before .before .before .before .before .before .before .before .before .before .before .before .before .before in
+    let p = c .before .before in
+    let s = p .before .before .before .before .before .before .before .before .before .before .before .before .before in
     let ready = s .pre .1 .0 in
-    let x-is = c .before .before .before .before .before .before .before .before .before .before .before .entry-at .ensures in
-    let q = quantifiers.rows-ready ready x-is (c .before .before .before .before .before .before .if2 .left)
-    (c .before .before .before .before .if4 .left) in
-    omega (arith, quantifiers.end-few q x-is (c .before .before .place-under .ensures) (c .before .if5 .taken) (s .pre .1 .1))
+    let x-is = p .before .before .before .before .before .before .before .before .before .entry-at .ensures in
+    let q = quantifiers.rows-ready ready x-is (p .before .before .before .before .if2 .left) (p .before .before .if4 .left) in
+    omega (arith, quantifiers.end-few q x-is (p .place-under .ensures) (c .before .if5 .taken) (s .pre .1 .1))
 
 reads-sub-sweep : (t : ℕ) → reads-lts.Need-sub-sweep (reads-claims t) (reads-at t) reads′.Post
 reads-sub-sweep t c =
-    let s = c .before .before .before .before .before .before .before .before .before .before .before .before .before .before .before in
+    let p = c .before .before in
+    let s = p .before .before .before .before .before .before .before .before .before .before .before .before .before in
     let ready = s .pre .1 .0 in
-    let x-is = c .before .before .before .before .before .before .before .before .before .before .before .entry-at .ensures in
-    let q = quantifiers.rows-ready ready x-is (c .before .before .before .before .before .before .if2 .left)
-    (c .before .before .before .before .if4 .left) in
-    quantifiers.end-behind q x-is (c .before .before .place-under .ensures) (c .before .if5 .taken) (s .pre .1 .1)
+    let x-is = p .before .before .before .before .before .before .before .before .before .entry-at .ensures in
+    let q = quantifiers.rows-ready ready x-is (p .before .before .before .before .if2 .left) (p .before .before .if4 .left) in
+    quantifiers.end-behind q x-is (p .place-under .ensures) (c .before .if5 .taken) (s .pre .1 .1)
 
 reads-sweep-requires : (t : ℕ) → reads-lts.Need-sweep-requires (reads-claims t) (reads-at t) reads′.Post
 reads-sweep-requires t c κs =
-    let s = c .before .before .before .before .before .before .before .before .before .before .before .before .before .before .before in
+    let p = c .before .before in
+    let s = p .before .before .before .before .before .before .before .before .before .before .before .before .before in
     let ready = s .pre .1 .0 in
-    let x-is = c .before .before .before .before .before .before .before .before .before .before .before .entry-at .ensures in
-    let q = quantifiers.rows-ready ready x-is (c .before .before .before .before .before .before .if2 .left)
-    (c .before .before .before .before .if4 .left) in
-    let h = quantifiers.under-call q x-is (c .before .before .place-under .ensures) (c .before .if5 .taken) (s .pre .1 .1) refl (s .pre .0) in
+    let x-is = p .before .before .before .before .before .before .before .before .before .entry-at .ensures in
+    let q = quantifiers.rows-ready ready x-is (p .before .before .before .before .if2 .left) (p .before .before .if4 .left) in
+    let h = quantifiers.under-call q x-is (p .place-under .ensures) (c .before .if5 .taken) (s .pre .1 .1) refl (s .pre .0) in
     (h .0, (h .1, s .pre .1 .1))
 
 reads-returns-5 : (t : ℕ) → reads-lts.Need-returns-5 (reads-claims t) (reads-at t) reads′.Post
 reads-returns-5 t c =
-    let s = c .before .before .before .before .before .before .before .before .before .before .before .before .before .before .before .before in
+    let p = c .before .before .before in
+    let s = p .before .before .before .before .before .before .before .before .before .before .before .before .before in
     let ready = s .pre .1 .0 in
-    let x-is = c .before .before .before .before .before .before .before .before .before .before .before .before .entry-at .ensures in
-    let q = quantifiers.rows-ready ready x-is (c .before .before .before .before .before .before .before .if2 .left)
-    (c .before .before .before .before .before .if4 .left) in
-    quantifiers.under-reads q x-is (c .before .before .before .place-under .ensures) (c .before .before .if5 .taken) (s .pre .1 .1) (s .args .wanted)
-    refl (c .sweep .ensures)
+    let x-is = p .before .before .before .before .before .before .before .before .before .entry-at .ensures in
+    let q = quantifiers.rows-ready ready x-is (p .before .before .before .before .if2 .left) (p .before .before .if4 .left) in
+    quantifiers.under-reads q x-is (p .place-under .ensures) (c .before .before .if5 .taken) (s .pre .1 .1) (s .args .wanted) refl (c .sweep .ensures)
 
 reads-bind-requires : (t : ℕ) → reads-lts.Need-bind-requires (reads-claims t) (reads-at t) reads′.Post
 reads-bind-requires t c κs =
@@ -212,36 +211,58 @@ reads-bind-requires t c κs =
 
 reads-reads-requires-4 : (t : ℕ) → reads-lts.Need-reads-requires-4 (reads-claims t) (reads-at t) reads′.Post
 reads-reads-requires-4 t c κs =
-    let s = c .before .before .before .before .before .before .before .before .before .before .before .before .before .before .before .before .before
-    in
+    let p = c .before .before .before .before in
+    let s = p .before .before .before .before .before .before .before .before .before .before .before .before .before in
     let ready = s .pre .1 .0 in
-    let x-is = c .before .before .before .before .before .before .before .before .before .before .before .before .before .entry-at .ensures in
-    let q = quantifiers.rows-ready ready x-is (c .before .before .before .before .before .before .before .before .if2 .left)
-    (c .before .before .before .before .before .before .if4 .left) in
+    let x-is = p .before .before .before .before .before .before .before .before .before .entry-at .ensures in
+    let q = quantifiers.rows-ready ready x-is (p .before .before .before .before .if2 .left) (p .before .before .if4 .left) in
     let h = steps.elsewhere-call q x-is (c .bind .ensures) (s .pre .0) in
     (h .0, (h .1, s .pre .1 .1))
 
 reads-returns-6 : (t : ℕ) → reads-lts.Need-returns-6 (reads-claims t) (reads-at t) reads′.Post
 reads-returns-6 t c =
-    let s = c .before .before .before .before .before .before .before .before .before .before .before .before .before .before .before .before .before
-    .before in
+    let p = c .before .before .before .before .before in
+    let s = p .before .before .before .before .before .before .before .before .before .before .before .before .before in
     let ready = s .pre .1 .0 in
-    let x-is = c .before .before .before .before .before .before .before .before .before .before .before .before .before .before .entry-at .ensures in
-    let q = quantifiers.rows-ready ready x-is (c .before .before .before .before .before .before .before .before .before .if2 .left)
-    (c .before .before .before .before .before .before .before .if4 .left) in
-    quantifiers.elsewhere-reads q x-is (s .args .wanted) (c .before .before .before .before .before .place-under .ensures)
-    (c .before .before .before .before .if5 .left) (c .before .before .if6 .taken) (c .before .bind .ensures) (c .reads4 .ensures)
+    let x-is = p .before .before .before .before .before .before .before .before .before .entry-at .ensures in
+    let q = quantifiers.rows-ready ready x-is (p .before .before .before .before .if2 .left) (p .before .before .if4 .left) in
+    quantifiers.elsewhere-reads q x-is (s .args .wanted) (p .place-under .ensures) (c .before .before .before .before .if5 .left)
+    (c .before .before .if6 .taken) (c .before .bind .ensures) (c .reads4 .ensures)
 
 reads-returns-7 : (t : ℕ) → reads-lts.Need-returns-7 (reads-claims t) (reads-at t) reads′.Post
 reads-returns-7 t c =
-    let s = c .before .before .before .before .before .before .before .before .before .before .before .before .before .before .before .before .before
-    .before in
+    let p = c .before .before .before .before .before in
+    let s = p .before .before .before .before .before .before .before .before .before .before .before .before .before in
     let ready = s .pre .1 .0 in
-    let x-is = c .before .before .before .before .before .before .before .before .before .before .before .before .before .before .entry-at .ensures in
-    let q = quantifiers.rows-ready ready x-is (c .before .before .before .before .before .before .before .before .before .if2 .left)
-    (c .before .before .before .before .before .before .before .if4 .left) in
-    quantifiers.none-reads q x-is (s .args .wanted) (c .before .before .before .before .before .place-under .ensures)
-    (c .before .before .before .before .if5 .left) (c .before .before .if6 .left) (c .if7 .taken)
+    let x-is = p .before .before .before .before .before .before .before .before .before .entry-at .ensures in
+    let q = quantifiers.rows-ready ready x-is (p .before .before .before .before .if2 .left) (p .before .before .if4 .left) in
+    quantifiers.none-reads q x-is (s .args .wanted) (p .place-under .ensures) (c .before .before .before .before .if5 .left)
+    (c .before .before .if6 .left) (c .if7 .taken)
+
+reads-bind-requires-2 : (t : ℕ) → reads-lts.Need-bind-requires-2 (reads-claims t) (reads-at t) reads′.Post
+reads-bind-requires-2 t c κs =
+    search needs
+
+reads-reads-requires-5 : (t : ℕ) → reads-lts.Need-reads-requires-5 (reads-claims t) (reads-at t) reads′.Post
+reads-reads-requires-5 t c κs =
+    let p = c .before .before .before .before .before .before in
+    let s = p .before .before .before .before .before .before .before .before .before .before .before .before .before in
+    let ready = s .pre .1 .0 in
+    let x-is = p .before .before .before .before .before .before .before .before .before .entry-at .ensures in
+    let q = quantifiers.rows-ready ready x-is (p .before .before .before .before .if2 .left) (p .before .before .if4 .left) in
+    let h = steps.elsewhere-call q x-is (c .bind2 .ensures) (s .pre .0) in
+    (h .0, (h .1, s .pre .1 .1))
+
+reads-returns-8 : (t : ℕ) → reads-lts.Need-returns-8 (reads-claims t) (reads-at t) reads′.Post
+reads-returns-8 t c =
+    let p = c .before .before .before .before .before .before .before .before in
+    let s = p .before .before .before .before .before .before .before .before .before .before .before .before .before in
+    let ready = s .pre .1 .0 in
+    let x-is = p .before .before .before .before .before .before .before .before .before .entry-at .ensures in
+    let q = quantifiers.rows-ready ready x-is (p .before .before .before .before .if2 .left) (p .before .before .if4 .left) in
+    quantifiers.spared-reads q x-is (s .args .wanted) (p .place-under .ensures) (c .before .before .before .before .before .before .before .if5 .left)
+    (c .before .before .before .before .before .if6 .left) (c .before .before .before .if7 .left) (c .before .before .bind2 .ensures)
+    (c .before .reads5 .ensures) (c .if8 .taken)
 
 reads-row-count-requires : (t : ℕ) → reads-lts.Need-row-count-requires (reads-claims t) (reads-at t) reads′.Post
 reads-row-count-requires t c κs =
@@ -249,27 +270,24 @@ reads-row-count-requires t c κs =
 
 reads-sweep-requires-2 : (t : ℕ) → reads-lts.Need-sweep-requires-2 (reads-claims t) (reads-at t) reads′.Post
 reads-sweep-requires-2 t c κs =
-    let s = c .before .before .before .before .before .before .before .before .before .before .before .before .before .before .before .before .before
-    .before .before in
+    let p = c .before .before .before .before .before .before .before .before .before in
+    let s = p .before .before .before .before .before .before .before .before .before .before .before .before .before in
     let ready = s .pre .1 .0 in
-    let x-is = c .before .before .before .before .before .before .before .before .before .before .before .before .before .before .before .entry-at
-    .ensures in
-    let q = quantifiers.rows-ready ready x-is (c .before .before .before .before .before .before .before .before .before .before .if2 .left)
-    (c .before .before .before .before .before .before .before .before .if4 .left) in
-    let h = quantifiers.roots-call q x-is (c .before .if7 .left) (c .row-count .ensures) (s .pre .0) in
+    let x-is = p .before .before .before .before .before .before .before .before .before .entry-at .ensures in
+    let q = quantifiers.rows-ready ready x-is (p .before .before .before .before .if2 .left) (p .before .before .if4 .left) in
+    let h = quantifiers.roots-call q x-is (c .before .before .before .before .if7 .left) (c .row-count .ensures) (s .pre .0) in
     (h .0, (h .1, s .pre .1 .1))
 
-reads-returns-8 : (t : ℕ) → reads-lts.Need-returns-8 (reads-claims t) (reads-at t) reads′.Post
-reads-returns-8 t c =
-    let s = c .before .before .before .before .before .before .before .before .before .before .before .before .before .before .before .before .before
-    .before .before .before in
+reads-returns-9 : (t : ℕ) → reads-lts.Need-returns-9 (reads-claims t) (reads-at t) reads′.Post
+reads-returns-9 t c =
+    let p = c .before .before .before .before .before .before .before .before .before .before in
+    let s = p .before .before .before .before .before .before .before .before .before .before .before .before .before in
     let ready = s .pre .1 .0 in
-    let x-is = c .before .before .before .before .before .before .before .before .before .before .before .before .before .before .before .before
-    .entry-at .ensures in
-    let q = quantifiers.rows-ready ready x-is (c .before .before .before .before .before .before .before .before .before .before .before .if2 .left)
-    (c .before .before .before .before .before .before .before .before .before .if4 .left) in
-    quantifiers.own-reads q x-is (s .args .wanted) (c .before .before .before .before .before .before .before .place-under .ensures)
-    (c .before .before .before .before .before .before .if5 .left) (c .before .before .before .before .if6 .left) (c .before .before .if7 .left)
+    let x-is = p .before .before .before .before .before .before .before .before .before .entry-at .ensures in
+    let q = quantifiers.rows-ready ready x-is (p .before .before .before .before .if2 .left) (p .before .before .if4 .left) in
+    quantifiers.own-reads q x-is (s .args .wanted) (p .place-under .ensures)
+    (c .before .before .before .before .before .before .before .before .before .if5 .left)
+    (c .before .before .before .before .before .before .before .if6 .left) (c .before .before .before .before .before .if7 .left)
     (c .before .row-count .ensures) (c .sweep2 .ensures)
 
 abbrev sweep-claims : ℕ → sweep-lts.Claims
@@ -436,7 +454,8 @@ pub +reads+sweep-spec : {M : Type 1} → statement M
     (reads-returns t) (reads-reads-requires-2 t) (reads-cast-reads t) (reads-reads-requires-3 t) (reads-returns-2 t) (reads-returns-3 t)
     (reads-compared-requires t) (reads-returns-4 t) (reads-cast-place-under t) (reads-place-under-requires t) (reads-sub-end t) (reads-mul-end t)
     (reads-shared-slice-read-end t) (reads-cast-end t) (reads-sub-sweep t) (reads-sweep-requires t) (reads-returns-5 t) (reads-bind-requires t)
-    (reads-reads-requires-4 t) (reads-returns-6 t) (reads-returns-7 t) (reads-row-count-requires t) (reads-sweep-requires-2 t) (reads-returns-8 t))
+    (reads-reads-requires-4 t) (reads-returns-6 t) (reads-returns-7 t) (reads-bind-requires-2 t) (reads-reads-requires-5 t) (reads-returns-8 t)
+    (reads-row-count-requires t) (reads-sweep-requires-2 t) (reads-returns-9 t))
     (λ t. sweep-lts.spec (sweep-claims t) (sweep-at t) sweep.Post (sweep-entry-at-requires t) (sweep-cast-place-under t)
     (sweep-place-under-requires t) (sweep-next-ranged-requires t) (sweep-add-left t) (sweep-sub-left t) (sweep-returns t) (sweep-sweep-requires t)
     (sweep-add-sweep t) (sweep-sub-sweep t) (sweep-sweep-requires-2 t) (sweep-returns-2 t) (sweep-returns-3 t) (sweep-add-bind t)

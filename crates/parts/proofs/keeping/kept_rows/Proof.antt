@@ -33,16 +33,19 @@ kept-rows-spec = tie.close (tie.spec
       },
       c .before .before .before .before .before .before .before .find-ends .ensures,
     ))
-    (λ c. let s = c .before .before .before .before .before .before .before .before .before .before .before .before .before .before .before .before in
-    omega (arith, c .before .before .before .before .loop-test .taken, c .before .before .before .before .before .before .row-count .ensures, few-rows (now (s .args .table)) (s .pre .device .accepted), c .before .before .before .before .before .loop .inv .0 .sized))
-    (λ c. let s = c .before .before .before .before .before .before .before .before .before .before .before .before .before .before .before .before in omega (arith, c .before .before .before .before .loop-test .taken, c .before .before .before .before .before .before .row-count .ensures, few-rows (now (s .args .table)) (s .pre .device .accepted)))
+    (λ c. let k = c .before .before .before .before .before .before in
+    let s = k .before .before .before .before .before .before .before .before .before .before in
+    let few = few-rows (now (s .args .table)) (s .pre .device .accepted) in
+    omega (arith, c .before .before .before .before .loop-test .taken, k .row-count .ensures, few, c .before .before .before .before .before .loop .inv .0 .sized))
+    (λ c. let k = c .before .before .before .before .before .before in
+    let s = k .before .before .before .before .before .before .before .before .before .before in
+    let few = few-rows (now (s .args .table)) (s .pre .device .accepted) in
+    omega (arith, c .before .before .before .before .loop-test .taken, k .row-count .ensures, few))
     (λ c. omega arith)
-    (λ c. let s = c .before .before .before .before .before .before .before .before .before .before .before .before .before .before .before .before in (
-      fill-more _ _ _ _ (c .before .before .before .before .before .loop .inv .0)
-          (omega (arith, c .before .before .before .before .loop-test .taken, c .before .before .before .before .before .before .row-count .ensures, few-rows (now (s .args .table)) (s .pre .device .accepted)))
-          (c .row-stays .ensures),
-      omega arith,
-    ))
+    (λ c. let k = c .before .before .before .before .before .before in
+    let s = k .before .before .before .before .before .before .before .before .before .before in
+    let few = few-rows (now (s .args .table)) (s .pre .device .accepted) in
+    (fill-more _ _ _ _ (c .before .before .before .before .before .loop .inv .0) (omega (arith, c .before .before .before .before .loop-test .taken, k .row-count .ensures, few)) (c .kept-byte .ensures), omega arith))
     (λ c. let s = c .before .before .before .before .before .before .before .before .before .before .before .before in
     subst (Keeps (now (s .args .rule)) (now (s .args .table)) (s .args .mode) _)
     (omega (arith, c .before .loop .inv .1, c .loop-test .left, c .before .before .row-count .ensures)) (c .before .loop .inv .0)))
