@@ -11,7 +11,7 @@ use borrow.Author.Tests.{ne-eqb, eqb-true, eqb-false, lt-ltb, le-ltb, leb-true}
 use Rattle.base.specs.Search.{sumBelow, first}
 use Rattle.base.proofs.Bools.{either, and-left, and-right}
 use Rattle.tables.specs.Words.{entryAt, entryCount, entryWords, rowAt, rowCount, rowWords, whole}
-use Rattle.tables.specs.Rules.{unknownKind, badWord, badChild, unbound, isQuantifier, namings, around, entryFault, ruleLength, checkRule}
+use Rattle.tables.specs.Rules.{nestingLimit, unknownKind, badWord, badChild, unbound, isQuantifier, namings, around, entryFault, ruleLength, checkRule}
 use Rattle.tables.specs.Answers.{unlessAny, inOrder}
 use Rattle.tables.specs.Tables.{outOfRange, isAbove, rowFault, tableLength, checkTable}
 use Rattle.tables.specs.Chains.{plainFault, linkFault}
@@ -39,9 +39,11 @@ module _ (r : List ℕ) (k i : ℕ) (e : Entry) (e-is : e ≡ entryAt r i) where
     fault-5 z m h = ap (λ (x : ℕ). ltb 0 i && not (eqb x 1)) (h ∙ ap (sumBelow (λ j. namings (entryAt r j) i)) n-is) ∙ rw z
 
   module _ (d : ℕ) (d-is : d ≡ around r i) where
-    pub fault-6 : k ≡ 6 → (b : Bool) → b ≡ isQuantifier e → (b && leb 8 d) ≡ entryFault r k i
+    pub fault-6 : k ≡ 6 → (b : Bool) → b ≡ isQuantifier e → (b && leb nestingLimit d) ≡ entryFault r k i
     unfolding entryFault
-    fault-6 z b h = ap (λ (x : Bool). x && leb 8 d) (h ∙ ap (λ (x : Entry). isQuantifier x) e-is) ∙ ap (λ (m : ℕ). isQuantifier (entryAt r i) && leb 8 m) d-is ∙ rw z
+    fault-6 z b h =
+        ap (λ (x : Bool). x && leb nestingLimit d) (h ∙ ap (λ (x : Entry). isQuantifier x) e-is)
+        ∙ ap (λ (m : ℕ). isQuantifier (entryAt r i) && leb nestingLimit m) d-is ∙ rw z
 
     pub fault-7 : (k ≡ 2 → ⊥) → (k ≡ 3 → ⊥) → (k ≡ 4 → ⊥) → (k ≡ 5 → ⊥) → (k ≡ 6 → ⊥) → (b : Bool) → b ≡ unbound d e → b ≡ entryFault r k i
     unfolding entryFault
