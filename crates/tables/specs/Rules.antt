@@ -11,7 +11,7 @@ use Rattle.tables.specs.declared.Answer.{Answer}
 
 -- how many quantifiers may stand around one another
 abbrev pub nestingLimit : ℕ
-nestingLimit = 8
+nestingLimit = 6
 
 -- ---- kinds
 abbrev pub isNot : Entry → Bool
@@ -81,7 +81,7 @@ badChild n i e = (hasChild e && badPlace n i (e .a)) || (isConnective e && badPl
 abbrev pub badNaming : List ℕ → ℕ → Bool
 badNaming r i = ltb 0 i && not (eqb (timesNamed r i) 1)
 
--- 6: a ninth quantifier
+-- 6: one quantifier more than may stand around one another
 abbrev pub tooDeep : List ℕ → ℕ → Bool
 tooDeep r i = isQuantifier (entryAt r i) && leb nestingLimit (around r i)
 

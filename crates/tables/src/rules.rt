@@ -22,7 +22,7 @@ pub const ENTRY_LIMIT: usize = 128;
 pub const RULE_WORDS: usize = ENTRY_LIMIT * ENTRY_WORDS;
 
 // So many quantifiers stand around one another at most.
-pub const NESTING_LIMIT: usize = 8;
+pub const NESTING_LIMIT: usize = 6;
 
 // Whether entry i of n has the fault of that number.
 fn entry_fault(rule: &[u32], n: usize, number: u32, i: usize) -> bool
