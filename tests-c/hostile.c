@@ -33,6 +33,7 @@ enum {
     PROGRAM_BYTES = 65536, /* the program's limit of a file */
     FILE_BYTES = 100000,   /* the longest file made here */
     TEXT_BYTES = 64,       /* the longest text of gabzeril_report */
+    MOST_NESTED = 6,       /* the quantifiers that may stand around one another */
     FILLED = 0xa5
 };
 
@@ -200,10 +201,10 @@ static void quick_rule(struct rule *rule)
     rule->entries = 2;
 }
 
-/* Quantifiers around one another, eight or nine of them. */
+/* Quantifiers around one another, as many as may be or one more. */
 static void deep_rule(struct rule *rule)
 {
-    uint32_t depth = 8 + below(2);
+    uint32_t depth = MOST_NESTED + below(2);
     for (uint32_t i = 0; i < depth; i++) {
         set_entry(rule, i, 5 + below(2), i + 1, chance(50) ? 0 : i, 1 + below(3));
     }

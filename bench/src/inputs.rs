@@ -1,6 +1,6 @@
 //! Rules and pools of the benchmark.
 
-use gabzeril_tests::checker::{MOST_NAME, MOST_VALUE};
+use gabzeril_tests::checker::{ENTRY_WORDS, MOST_NAME, MOST_NESTED, MOST_VALUE};
 
 /// Rule A of the contract: each device is client or server.
 pub const A: [u32; 24] = [5, 1, 0, 1, 3, 2, 4, 0, 6, 3, 1, 2, 7, 1, 1, 1, 6, 5, 1, 2, 7, 1, 1, 2];
@@ -120,41 +120,53 @@ fn hash(device: u32, place: u32, name: u32, value: u32) -> u64 {
         / (1 << 22)
 }
 
-/// Eight quantifiers over roots around one another; each decides at the last row of `roots(rows, 1)`.
+/// The variable of the innermost quantifier where as many as may be stand around one another.
+const INNERMOST: u32 = MOST_NESTED as u32 - 1;
+
+/// As many quantifiers over roots around one another as may be; each decides at the last row of
+/// `roots(rows, 1)`.
 pub fn deep(rows: u32) -> Vec<u32> {
     let last = rows - 1;
     let mut rule = vec![];
-    for variable in 0..7 {
-        let entry = 3 * variable;
+    for variable in 0..INNERMOST {
+        let entry = next_entry(&rule);
         rule.extend([6, entry + 1, 0, 1]);
         rule.extend([2, entry + 2, entry + 3, 0]);
         rule.extend([7, variable, 1, last]);
     }
-    rule.extend([6, 22, 0, 1, 7, 7, 1, last]);
+    let entry = next_entry(&rule);
+    rule.extend([6, entry + 1, 0, 1]);
+    rule.extend([7, INNERMOST, 1, last]);
     rule
 }
 
-/// Eight of both kinds likewise; none decides before the innermost variable is bound, to the last row.
+/// As many of both kinds likewise; none decides before the innermost variable is bound, to the last row.
 pub fn late(rows: u32) -> Vec<u32> {
-    let (innermost, last) = (7, rows - 1);
+    let last = rows - 1;
     let mut rule = vec![];
-    // Every x0: not some x1: not every x2, and so on: what decides the innermost decides them all.
-    for variable in 0..innermost {
-        let entry = 2 * variable;
-        rule.extend([5 + variable % 2, entry + 1, 0, 1]);
+    // Every, not some, not every, and so on, down to a some: what decides the innermost decides them all.
+    for variable in 0..INNERMOST {
+        let (entry, kind) = (next_entry(&rule), 6 - (INNERMOST - variable) % 2);
+        rule.extend([kind, entry + 1, 0, 1]);
         rule.extend([1, entry + 2, 0, 0]);
     }
-    rule.extend([6, 15, 0, 1]);
-    rule.extend([2, 16, 17, 0]);
-    rule.extend([7, innermost, 1, last]);
+    let entry = next_entry(&rule);
+    rule.extend([6, entry + 1, 0, 1]);
+    rule.extend([2, entry + 2, entry + 3, 0]);
+    rule.extend([7, INNERMOST, 1, last]);
     // And some other variable is below it.
-    for variable in 0..6 {
-        let entry = 17 + 2 * variable;
+    for variable in 0..INNERMOST - 1 {
+        let entry = next_entry(&rule);
         rule.extend([3, entry + 1, entry + 2, 0]);
-        rule.extend([8, variable, 0, innermost]);
+        rule.extend([8, variable, 0, INNERMOST]);
     }
-    rule.extend([8, 6, 0, innermost]);
+    rule.extend([8, INNERMOST - 1, 0, INNERMOST]);
     rule
+}
+
+/// The number of the entry that is added next.
+fn next_entry(rule: &[u32]) -> u32 {
+    (rule.len() / ENTRY_WORDS) as u32
 }
 
 /// Some x0, and for every x1: x0 is at most a value that no root exceeds. The inner quantifier is settled whatever row x1 has.
@@ -183,8 +195,8 @@ mod tests {
             for table in tables {
                 assert_eq!(check_table(&table), Answer::Done(rows as usize));
             }
-            assert_eq!(check_rule(&deep(rows)), Answer::Done(23));
-            assert_eq!(check_rule(&late(rows)), Answer::Done(30));
+            assert_eq!(check_rule(&deep(rows)), Answer::Done(3 * MOST_NESTED - 1));
+            assert_eq!(check_rule(&late(rows)), Answer::Done(4 * MOST_NESTED - 2));
         }
         for rule in [&A[..], &B, &C, &early()] {
             assert_eq!(check_rule(rule), Answer::Done(rule.len() / 4));

@@ -18,7 +18,7 @@ pub fn rules() -> Vec<Vec<u32>> {
     rules
 }
 
-/// One chain of 128 entries: nots, then eight quantifiers, then a comparison.
+/// One chain of 128 entries: nots, then as many quantifiers as may be, then a comparison.
 fn nots_first(quantifier: u32) -> Vec<u32> {
     let (entries, nested) = (MOST_ENTRIES as u32, MOST_NESTED as u32);
     let mut rule = vec![];
@@ -34,8 +34,8 @@ fn nots_first(quantifier: u32) -> Vec<u32> {
     rule
 }
 
-/// Eight quantifiers around one chain of connectives to the left, of comparisons with the innermost variable
-/// that do not decide: every row and both sides are in the reason.
+/// As many quantifiers as may be, around one chain of connectives to the left, of comparisons with the
+/// innermost variable that do not decide: every row and both sides are in the reason.
 fn over_connectives(quantifier: u32, connective: u32, comparison: u32) -> Vec<u32> {
     let innermost = MOST_NESTED as u32 - 1;
     let mut rule: Vec<u32> =
@@ -49,7 +49,7 @@ fn over_connectives(quantifier: u32, connective: u32, comparison: u32) -> Vec<u3
     rule
 }
 
-/// Eight quantifiers around one another: some x that is the last row, and some y that is, and so on.
+/// As many as may stand around one another: some x that is the last row, and some y that is, and so on.
 fn quantifiers() -> Vec<u32> {
     let mut rule = vec![];
     for variable in 0..MOST_NESTED as u32 - 1 {
@@ -76,7 +76,8 @@ fn quantifiers_under_one_another() -> Vec<u32> {
 /// One chain of 128 entries: quantifiers spread among nots, then a comparison.
 fn nots(quantifiers: u32, name: u32) -> Vec<u32> {
     let entries = MOST_ENTRIES as u32;
-    let step = entries / quantifiers;
+    // Rounded up: there are no more quantifiers than asked for.
+    let step = entries.div_ceil(quantifiers);
     let mut rule = vec![];
     for place in 0..entries - 1 {
         let words = if place % step == 0 { [6, place + 1, 0, name] } else { [1, place + 1, 0, 0] };
@@ -115,12 +116,13 @@ fn deep_left(kind: u32) -> Vec<u32> {
 /// Tables of one device with 1,024 rows.
 pub fn tables() -> Vec<Vec<u32>> {
     let most = MOST_ROWS as u32;
+    let chain = most - MOST_NESTED as u32;
     vec![
         table(|row| if row + 1 < most { [0, COMMON] } else { [0, LAST] }),
-        // A chain of eight at the end.
+        // A chain at the end, with a row for each quantifier.
         table(|row| match row {
-            row if row < most - 8 => [0, COMMON],
-            row if row == most - 8 => [0, LAST],
+            row if row < chain => [0, COMMON],
+            row if row == chain => [0, LAST],
             row => [row, LAST],
         }),
         // Each row under the one before.

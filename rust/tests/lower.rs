@@ -139,7 +139,7 @@ fn moved_behind(first: &[u32], mut second: Vec<u32>) -> Vec<u32> {
 /// Two tables with about 1,024 rows together.
 fn many_rows(random: &mut Random, vocabulary: &Vocabulary) -> (Vec<u32>, Vec<u32>) {
     let rows = random.between(1, MOST_ROWS);
-    let shape = PoolShape { rows, devices: 2, roots: 2, step: 1, spread: false, wide: false };
+    let shape = PoolShape { rows, devices: 2, roots: 2, step: 1, spread: false, wide: false, chained: 40 };
     let first = pool_of(random, vocabulary, shape);
     let rows = MOST_ROWS - rows + random.below(3);
     let second = pool_of(random, vocabulary, PoolShape { rows: rows.min(MOST_ROWS), ..shape });

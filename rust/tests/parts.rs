@@ -1,7 +1,6 @@
 //! The parts, and demand 3 on lists of devices.
 #![cfg(feature = "parts")]
 
-use gabzeril_tests::checker;
 use gabzeril_tests::compare::{calls, run, Case};
 use gabzeril_tests::generate::*;
 use gabzeril_tests::random::Random;
@@ -21,19 +20,11 @@ fn accepted_rules_and_tables() {
 
 fn each_mode(case: &mut Case, rule: &[u32], device: &[u32]) {
     for mode in 1..=3 {
-        let words = sent(rule, device, mode);
+        let words = words_sent(rule, device, mode);
         for length in some_lengths_around(&mut case.random, words) {
             let output = case.random.words(length);
             calls::part(case, rule, device, mode, &output);
         }
-    }
-}
-
-/// The words of the part.
-fn sent(rule: &[u32], device: &[u32], mode: u32) -> usize {
-    match checker::part(rule, device, mode, &mut vec![0; device.len()]) {
-        gabzeril_tests::answer::Answer::Done(rows) => rows * checker::ROW_WORDS,
-        _ => 0,
     }
 }
 
@@ -66,7 +57,7 @@ fn quantifiers_over_roots() {
                 continue;
             }
             let length = match case.random.chance(20) {
-                true => one_length_around(&mut case.random, sent(&rule, &device, mode)),
+                true => one_length_around(&mut case.random, words_sent(&rule, &device, mode)),
                 false => device.len(),
             };
             let output = case.random.words(length);

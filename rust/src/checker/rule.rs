@@ -8,7 +8,7 @@ use crate::answer::{Answer, Refusal};
 pub const ENTRY_WORDS: usize = 4;
 pub const MOST_ENTRIES: usize = 128;
 /// The quantifiers that may stand around one another.
-pub const MOST_NESTED: usize = 8;
+pub const MOST_NESTED: usize = 6;
 
 pub fn check_rule(rule: &[u32]) -> Answer {
     accepted_rule(rule).map(|entries| entries.len()).into()
@@ -68,4 +68,64 @@ pub fn quantifiers_around(entries: &[Entry]) -> Vec<Vec<usize>> {
         }
     }
     around
+}
+
+#[cfg(test)]
+mod tests {
+    use super::*;
+
+    /// Six quantifiers over roots, and the entries given.
+    fn under_six(entries: &[[u32; 4]]) -> Vec<u32> {
+        let around = (1..=6).map(|body| [5, body, 0, 1]);
+        around.chain(entries.iter().copied()).flatten().collect()
+    }
+
+    #[test]
+    fn six_may_stand_around_one_another() {
+        assert_eq!(check_rule(&under_six(&[[7, 5, 1, 0]])), Answer::Done(7));
+        // Nots between them are not counted.
+        let mut rule: Vec<u32> = (0..6)
+            .flat_map(|variable| [6, 2 * variable + 1, variable, 1, 1, 2 * variable + 2, 0, 0])
+            .collect();
+        rule.extend([7, 5, 0, 0]);
+        assert_eq!(check_rule(&rule), Answer::Done(13));
+    }
+
+    /// Over roots, under each variable that is bound, and under some that are not: 6 comes before 7.
+    #[test]
+    fn a_seventh_is_refused_at_its_entry() {
+        for kind in [5, 6] {
+            for b in (0..=9).chain([u32::MAX]) {
+                let rule = under_six(&[[kind, 7, b, 1], [7, 6, 1, 0]]);
+                assert_eq!(check_rule(&rule), Answer::refused(6, 6), "{rule:?}");
+            }
+        }
+        let rule = under_six(&[[1, 7, 0, 0], [2, 8, 9, 0], [7, 0, 1, 0], [5, 10, 6, 1], [7, 6, 1, 0]]);
+        assert_eq!(check_rule(&rule), Answer::refused(6, 9));
+        // The first in the order of the entries, not the one to the left.
+        let rule = under_six(&[[3, 8, 7, 0], [6, 9, 0, 1], [6, 10, 0, 1], [7, 6, 1, 0], [7, 6, 1, 0]]);
+        assert_eq!(check_rule(&rule), Answer::refused(6, 7));
+    }
+
+    #[test]
+    fn a_seventh_beside_another_is_accepted() {
+        let mut rule: Vec<u32> = vec![];
+        for place in (0..18).step_by(3) {
+            rule.extend([3, place + 1, place + 3, 0, 6, place + 2, 0, 1, 7, 0, 1, 0]);
+        }
+        rule.extend([6, 19, 0, 1, 7, 0, 1, 0]);
+        assert_eq!(check_rule(&rule), Answer::Done(20));
+        // Two beside one another within five.
+        let mut rule: Vec<u32> = (1..=5).flat_map(|body| [5, body, 0, 1]).collect();
+        rule.extend([2, 6, 8, 0, 6, 7, 0, 1, 7, 5, 1, 0, 6, 9, 5, 1, 7, 5, 1, 0]);
+        assert_eq!(check_rule(&rule), Answer::Done(10));
+    }
+
+    /// Variable 5 is the last that can be bound.
+    #[test]
+    fn a_seventh_variable_is_never_bound() {
+        for words in [[7, 6, 1, 0], [8, 6, 0, 0], [9, 0, 0, 6], [7, u32::MAX, 0, 6]] {
+            assert_eq!(check_rule(&under_six(&[words])), Answer::refused(7, 6), "{words:?}");
+        }
+    }
 }

@@ -55,8 +55,8 @@ fn refusals() {
     assert_eq!(check_table(&[1, 1, 0, 1, 2_147_483_648]), Answer::refused(9, 0));
     let doubled = [&D1[..], &[1, 4, 1, 2, 2]].concat();
     assert_eq!(check_table(&doubled), Answer::refused(12, 3)); // (j)
-    assert_eq!(check_rule(&nested(8)), Answer::Done(9)); // (k)
-    assert_eq!(check_rule(&nested(9)), Answer::refused(6, 8));
+    assert_eq!(check_rule(&nested(6)), Answer::Done(7)); // (k)
+    assert_eq!(check_rule(&nested(7)), Answer::refused(6, 6));
     let mut pool = [&D2[..], &[0; 20]].concat();
     assert_eq!(join(&mut pool, D2.len(), &D1), Answer::refused(16, 0)); // (l)
 }

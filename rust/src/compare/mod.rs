@@ -53,6 +53,11 @@ impl Case {
         Case { random, seed, tally: Tally::default() }
     }
 
+    /// Counts something that the test promises to have seen.
+    pub fn note(&mut self, what: &'static str) {
+        self.tally.note(what);
+    }
+
     /// Counts one comparison; fails if its outcome was not the expected one. The retired number may not be
     /// expected, so a call that answers it fails in any case.
     pub fn compared(&mut self, same: bool, expected: Answer, describe: impl FnOnce() -> String) {

@@ -1,5 +1,7 @@
 //! How many comparisons were made, by the answer expected.
 
+use std::collections::BTreeMap;
+
 use crate::answer::Answer;
 
 #[derive(Clone, Debug, Default)]
@@ -9,6 +11,8 @@ pub struct Tally {
     numbers: [u64; 20],
     /// Accepted calls with the value 0, and with another.
     values: [u64; 2],
+    /// What a test counts beside the answers.
+    notes: BTreeMap<&'static str, u64>,
 }
 
 impl Tally {
@@ -20,6 +24,10 @@ impl Tally {
         }
     }
 
+    pub fn note(&mut self, what: &'static str) {
+        *self.notes.entry(what).or_default() += 1;
+    }
+
     pub fn add(&mut self, other: &Tally) {
         self.compared += other.compared;
         for (sum, number) in self.numbers.iter_mut().zip(other.numbers) {
@@ -27,6 +35,9 @@ impl Tally {
         }
         for (sum, number) in self.values.iter_mut().zip(other.values) {
             *sum += number;
+        }
+        for (what, number) in &other.notes {
+            *self.notes.entry(what).or_default() += number;
         }
     }
 
@@ -36,6 +47,12 @@ impl Tally {
             let seen = self.numbers[number];
             assert!(seen >= least, "refusal {number} was expected only {seen} times: {self:?}");
         }
+    }
+
+    /// Fails unless this was noted at least so often.
+    pub fn saw_noted(&self, what: &str, least: u64) {
+        let seen = self.notes.get(what).copied().unwrap_or(0);
+        assert!(seen >= least, "{what}: only {seen} times: {self:?}");
     }
 
     /// Fails unless accepted calls had the value 0, and another, at least so often.

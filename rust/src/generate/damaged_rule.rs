@@ -121,7 +121,7 @@ fn on_some_child(random: &mut Random, rule: &mut [u32], child: impl Fn(&mut Rand
     }
 }
 
-/// Nine or more quantifiers around one another.
+/// More quantifiers around one another than may stand so.
 fn too_nested(random: &mut Random) -> Vec<u32> {
     let vocabulary = Vocabulary::new(random);
     let nested = random.between(MOST_NESTED + 1, MOST_NESTED + 5);
@@ -132,9 +132,17 @@ fn too_nested(random: &mut Random) -> Vec<u32> {
 
 /// Check 7: any place that names a variable, bound nowhere or only elsewhere.
 fn unbound_variable(random: &mut Random, words: &mut [u32]) {
-    let variable = random.pick(&[1, 2, 3, 4, 7, 8, 9, 65_536, 2_147_483_648, u32::MAX]);
+    let limit = MOST_NESTED as u32;
+    let near = [limit - 1, limit, limit + 1];
+    let far = [0, 1, 2, 3, 4, 8, 9, 65_536, 2_147_483_648, u32::MAX];
+    let variable = if random.chance(25) { random.pick(&near) } else { random.pick(&far) };
+    use_variable(random, words, variable);
+}
+
+/// Makes a quantifier or comparison use this variable, in any of its places for one.
+pub fn use_variable(random: &mut Random, words: &mut [u32], variable: u32) {
     match words[0] {
-        5 | 6 => words[2] = variable,
+        5 | 6 => words[2] = variable.saturating_add(1),
         7..=9 if random.chance(50) => {
             words[2] = 0;
             words[3] = variable;

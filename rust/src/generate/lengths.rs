@@ -1,5 +1,7 @@
 //! Lengths of output buffers, in words or bytes.
 
+use crate::answer::Answer;
+use crate::checker::{part, ROW_WORDS};
 use crate::random::Random;
 
 /// Each length around the answer: none, 1 less, the answer, 1 more, much longer.
@@ -20,5 +22,13 @@ pub fn some_lengths_around(random: &mut Random, answer: usize) -> Vec<usize> {
     match random.below(6) {
         0 => lengths_around(answer).to_vec(),
         _ => (0..3).map(|_| one_length_around(random, answer)).collect(),
+    }
+}
+
+/// The words of the part; none if it is refused.
+pub fn words_sent(rule: &[u32], device: &[u32], mode: u32) -> usize {
+    match part(rule, device, mode, &mut vec![0; device.len()]) {
+        Answer::Done(rows) => rows * ROW_WORDS,
+        _ => 0,
     }
 }

@@ -6,6 +6,7 @@ mod damaged_rule;
 mod damaged_table;
 mod faults;
 mod lengths;
+mod nested;
 mod pools;
 mod rules;
 #[cfg(test)]
@@ -17,8 +18,12 @@ pub use cost::{files_cost, reading_cost, verdict_cost};
 pub use damaged_file::{damaged_file, file_of_words};
 pub use damaged_rule::{any_rule, damage_rule, damaged_rule, RULE_FAULTS};
 pub use damaged_table::{any_table, damage_table, damaged_table, TABLE_FAULTS};
-pub use lengths::{lengths_around, one_length_around, some_lengths_around};
+pub use lengths::{lengths_around, one_length_around, some_lengths_around, words_sent};
+pub use nested::{nested_rule, NestedRule};
 pub use pools::{pool, pool_of, PoolShape};
 pub use rules::{rule, rule_of, RuleShape};
-pub use together::{rule_and_devices, rule_and_pool, rule_and_roots, rule_and_siblings, Together};
+pub use together::{
+    damaged_together, nested_rule_and_table, rule_and_devices, rule_and_pool, rule_and_roots,
+    rule_and_siblings, Together,
+};
 pub use vocabulary::{word_of_any_class, Vocabulary, NOT_IN_POOL};

@@ -18,6 +18,8 @@ pub struct PoolShape {
     pub spread: bool,
     /// Whether most rows that are no roots hang under the first row of their device.
     pub wide: bool,
+    /// Percent of the other rows that hang under the row before them.
+    pub chained: usize,
 }
 
 impl PoolShape {
@@ -45,6 +47,7 @@ impl PoolShape {
             step: random.pick(&[1, 1, 3, 30]),
             spread: random.chance(30),
             wide: random.chance(15),
+            chained: 40,
         }
     }
 }
@@ -105,7 +108,7 @@ impl Growth<'_> {
             let up = match root {
                 true => 0,
                 false if self.shape.wide && self.random.chance(90) => ats[0],
-                false if self.random.chance(40) => ats[row - 1],
+                false if self.random.chance(self.shape.chained) => ats[row - 1],
                 false => ats[self.random.below(row)],
             };
             let (name, value) = self.name_and_value(device, up);

@@ -9,7 +9,7 @@ use crate::random::Random;
 #[derive(Clone, Copy, Debug)]
 pub struct RuleShape {
     pub entries: usize,
-    /// The quantifiers that may stand around one another; above eight the rule is refused with 6.
+    /// The quantifiers that may stand around one another; above the limit the rule is refused with 6.
     pub nested: usize,
     /// Chances of not, of a connective with two sides, and of a quantifier, where each is possible.
     pub weights: [usize; 3],
@@ -55,31 +55,51 @@ pub fn rule(random: &mut Random, vocabulary: &Vocabulary) -> Vec<u32> {
 }
 
 pub fn rule_of(random: &mut Random, vocabulary: &Vocabulary, shape: RuleShape) -> Vec<u32> {
-    let mut tree = Tree { random, vocabulary, shape, nodes: vec![] };
+    let mut tree = Tree::new(random, vocabulary, shape);
     tree.grow(shape.entries, 0);
-    tree.laid_out()
+    let order = tree.order();
+    tree.laid_out(&order)
 }
 
 /// An entry whose children are nodes of the tree: they stand in words a and b.
-struct Node {
-    words: [u32; 4],
-    children: Vec<usize>,
+pub struct Node {
+    pub words: [u32; 4],
+    pub children: Vec<usize>,
+    /// The number of quantifiers around it.
+    pub around: usize,
 }
 
-struct Tree<'a> {
-    random: &'a mut Random,
+pub struct Tree<'a> {
+    pub random: &'a mut Random,
     vocabulary: &'a Vocabulary,
-    shape: RuleShape,
-    nodes: Vec<Node>,
+    pub shape: RuleShape,
+    pub nodes: Vec<Node>,
+}
+
+/// The fewest entries of a tree: a comparison needs a variable, hence a quantifier around it.
+pub fn least_entries(around: usize) -> usize {
+    if around == 0 {
+        2
+    } else {
+        1
+    }
 }
 
 impl Tree<'_> {
-    /// Grows a tree of this many entries (at least 2 where no variable is bound) and gives its node.
-    fn grow(&mut self, entries: usize, around: usize) -> usize {
-        // A comparison needs a variable, hence a quantifier around it.
-        let least = if around == 0 { 2 } else { 1 };
-        let node = self.nodes.len();
-        self.nodes.push(Node { words: [0; 4], children: vec![] });
+    pub fn new<'a>(random: &'a mut Random, vocabulary: &'a Vocabulary, shape: RuleShape) -> Tree<'a> {
+        Tree { random, vocabulary, shape, nodes: vec![] }
+    }
+
+    /// Adds a node that has no words and no children yet.
+    pub fn add(&mut self, around: usize) -> usize {
+        self.nodes.push(Node { words: [0; 4], children: vec![], around });
+        self.nodes.len() - 1
+    }
+
+    /// Grows a tree of this many entries and gives its node.
+    pub fn grow(&mut self, entries: usize, around: usize) -> usize {
+        let least = least_entries(around);
+        let node = self.add(around);
         let [not, two_sided, quantifier] = self.shape.weights;
         let choices = [
             if entries > least { not.max(1) } else { 0 },
@@ -96,7 +116,7 @@ impl Tree<'_> {
                     vec![self.grow(entries - 1, around)]
                 }
                 1 => {
-                    self.nodes[node].words = [self.random.pick(&[2, 3, 4]), 0, 0, 0];
+                    self.nodes[node].words = self.connective();
                     let left = self.left_side(entries - 1, least);
                     vec![self.grow(left, around), self.grow(entries - 1 - left, around)]
                 }
@@ -110,7 +130,8 @@ impl Tree<'_> {
         node
     }
 
-    fn choose(&mut self, chances: [usize; 3]) -> usize {
+    /// The place of one of these chances.
+    pub fn choose<const N: usize>(&mut self, chances: [usize; N]) -> usize {
         let mut drawn = self.random.below(chances.iter().sum());
         for (choice, chance) in chances.into_iter().enumerate() {
             if drawn < chance {
@@ -129,7 +150,11 @@ impl Tree<'_> {
         }
     }
 
-    fn quantifier(&mut self, around: usize) -> [u32; 4] {
+    pub fn connective(&mut self) -> [u32; 4] {
+        [self.random.pick(&[2, 3, 4]), 0, 0, 0]
+    }
+
+    pub fn quantifier(&mut self, around: usize) -> [u32; 4] {
         let kind = self.random.pick(&[5, 6]);
         let over_roots = around == 0 || self.random.chance(self.shape.roots);
         let under = match over_roots {
@@ -143,7 +168,7 @@ impl Tree<'_> {
     }
 
     /// Any two variables, also one with itself, or a variable and a constant.
-    fn comparison(&mut self, around: usize) -> [u32; 4] {
+    pub fn comparison(&mut self, around: usize) -> [u32; 4] {
         let kind = self.random.pick(&[7, 7, 8, 9]);
         // The innermost variable is the one that a quantifier most often needs.
         let latest = self.random.chance(60);
@@ -156,25 +181,35 @@ impl Tree<'_> {
         [kind, left as u32, 1, constant]
     }
 
-    /// Numbers the nodes, each after its parent: the earliest or latest found first, or any.
-    fn laid_out(&mut self) -> Vec<u32> {
-        let order = self.random.below(3);
-        let (mut found, mut entries) = (vec![0], vec![]);
+    /// The nodes, each after its parent: the earliest or latest found first, or any. Either side of a
+    /// connective may be found first.
+    pub fn order(&mut self) -> Vec<usize> {
+        let (first, right_first) = (self.random.below(3), self.random.chance(50));
+        let (mut found, mut order) = (vec![0], vec![]);
         while !found.is_empty() {
-            let next = match order {
+            let next = match first {
                 0 => 0,
                 1 => found.len() - 1,
                 _ => self.random.below(found.len()),
             };
             let node = found.remove(next);
-            found.extend(&self.nodes[node].children);
-            entries.push(node);
+            let mut children = self.nodes[node].children.clone();
+            if right_first {
+                children.reverse();
+            }
+            found.extend(children);
+            order.push(node);
         }
-        let mut number = vec![0; entries.len()];
-        for (place, &node) in entries.iter().enumerate() {
+        order
+    }
+
+    /// The words of the nodes in this order.
+    pub fn laid_out(&self, order: &[usize]) -> Vec<u32> {
+        let mut number = vec![0; order.len()];
+        for (place, &node) in order.iter().enumerate() {
             number[node] = place as u32;
         }
-        entries.iter().flat_map(|&node| self.nodes[node].numbered(&number)).collect()
+        order.iter().flat_map(|&node| self.nodes[node].numbered(&number)).collect()
     }
 }
 

@@ -1,7 +1,7 @@
 //! What the generators promise.
 
 use super::*;
-use crate::checker::{accepted_rule, accepted_table, check_rule, check_table, part, Entry};
+use crate::checker::{accepted_rule, accepted_table, check_rule, check_table, part, Entry, MOST_NESTED};
 use crate::random::Random;
 
 #[test]
@@ -48,6 +48,17 @@ fn nested_over_roots(entries: &[Entry], entry: usize) -> usize {
     let children = entries[entry].children().into_iter();
     let inside = children.map(|child| nested_over_roots(entries, child)).max().unwrap_or(0);
     inside + is_over_roots(&entries[entry]) as usize
+}
+
+/// They have the faults that they tell and no others.
+#[test]
+fn nested_rules_are_as_they_tell() {
+    for seed in 0..3_000 {
+        let (rule, table) = nested_rule_and_table(&mut Random::new(seed), 20_000);
+        assert_eq!(check_rule(&rule.words), rule.check(), "seed {seed}: {rule:?}");
+        assert_eq!(rule.too_nested.is_some(), rule.deepest > MOST_NESTED, "seed {seed}: {rule:?}");
+        assert_eq!(check_table(&table).number(), 0, "seed {seed}: {table:?}");
+    }
 }
 
 /// A fault put in alone is mostly the one that is found; where there is no place for it, none is.

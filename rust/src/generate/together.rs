@@ -1,10 +1,13 @@
 //! A rule and a pool that use the same names and values, and do not take long.
 
 use super::cost::{reading_cost, verdict_cost};
+use super::damaged_rule::damaged_rule;
+use super::damaged_table::damaged_table;
+use super::nested::{nested_rule, NestedRule};
 use super::pools::{pool_of, PoolShape};
 use super::rules::{rule_of, RuleShape, Sides};
 use super::vocabulary::Vocabulary;
-use crate::checker::{devices_of, ROW_WORDS};
+use crate::checker::{devices_of, MOST_NESTED, ROW_WORDS};
 use crate::random::Random;
 
 #[derive(Clone, Copy, Debug)]
@@ -62,7 +65,7 @@ pub fn rule_and_roots(random: &mut Random, cost: u64) -> (Vec<u32>, Vec<u32>) {
         let vocabulary = Vocabulary { names: (1..=names).collect(), ..Vocabulary::new(random) };
         let shape = RuleShape {
             entries: random.between(5, 24),
-            nested: random.between(2, 6),
+            nested: random.between(2, MOST_NESTED),
             weights: random.pick(&[[1, 6, 4], [1, 8, 2], [2, 4, 4]]),
             sides: Sides::Any,
             roots: random.pick(&[80, 100]),
@@ -88,6 +91,26 @@ fn device_of_roots(random: &mut Random, vocabulary: &Vocabulary) -> Vec<u32> {
     }
 }
 
+/// A rule about as nested as may be and an accepted table of a few rows, most often of one device.
+pub fn nested_rule_and_table(random: &mut Random, cost: u64) -> (NestedRule, Vec<u32>) {
+    let names = random.between(1, 3) as u32;
+    let vocabulary = Vocabulary { names: (1..=names).collect(), ..Vocabulary::new(random) };
+    let rule = nested_rule(random, &vocabulary);
+    let mut rows = if random.chance(90) { random.below(12) } else { random.between(12, 30) };
+    loop {
+        let devices = if random.chance(85) { 1 } else { random.between(2, 3) };
+        // Chains are long enough for quantifiers that all stand under one another's variables.
+        let chained = random.pick(&[40, 95]);
+        let shape = PoolShape { devices, chained, ..PoolShape::with_rows(random, rows) };
+        let table = pool_of(random, &vocabulary, shape);
+        if verdict_cost(&rule.words, &table).max(reading_cost(&rule.words, &table)) <= cost {
+            return (rule, table);
+        }
+        // No rule takes long without rows.
+        rows /= 2;
+    }
+}
+
 /// An accepted rule, and the tables of devices whose rows together are accepted; some have no rows.
 pub fn rule_and_devices(random: &mut Random, limit: Together) -> (Vec<u32>, Vec<Vec<u32>>) {
     loop {
@@ -101,5 +124,14 @@ pub fn rule_and_devices(random: &mut Random, limit: Together) -> (Vec<u32>, Vec<
             devices.insert(random.below(devices.len() + 1), vec![]);
         }
         return (rule, devices);
+    }
+}
+
+/// A fault or several in the rule, in the pool or in both.
+pub fn damaged_together(random: &mut Random, rule: Vec<u32>, pool: Vec<u32>) -> (Vec<u32>, Vec<u32>) {
+    match random.below(3) {
+        0 => (damaged_rule(random, &rule), pool),
+        1 => (rule, damaged_table(random, &pool)),
+        _ => (damaged_rule(random, &rule), damaged_table(random, &pool)),
     }
 }

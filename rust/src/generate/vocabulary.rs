@@ -1,17 +1,18 @@
 //! The few names and values that a rule and a pool share, so that the rule finds rows.
 
-use crate::checker::{MOST_NAME, MOST_VALUE};
+use crate::checker::{MOST_NAME, MOST_NESTED, MOST_VALUE};
 use crate::random::Random;
 
 /// A name that no pool uses.
 pub const NOT_IN_POOL: u32 = 65_000;
 
-const WORD_CLASSES: [u32; 16] = [
+const WORD_CLASSES: [u32; 17] = [
     0,
     1,
     2,
-    6,
-    7,
+    MOST_NESTED as u32 - 1,
+    MOST_NESTED as u32,
+    MOST_NESTED as u32 + 1,
     8,
     9,
     10,
