@@ -8,10 +8,11 @@ use native.Mathlib.Omega.{arith}
 use lib.ListN.{length, getD, set, replicate, length-set}
 use lib.Seq.{getD-set-same, getD-set-other}
 use lib.Dec.{eqb}
-use borrow.Author.Tests.{eqb-true, eqb-false, lt-ltb}
+use borrow.Author.Tests.{eqb-true, eqb-false, lt-ltb, le-leb}
 use Rattle.base.proofs.Bools.{either}
 use Rattle.tables.specs.Words.{rowAt, rowCount}
 use Rattle.tables.specs.Rules.{nestingLimit}
+use Rattle.tables.specs.Tables.{rowLimit}
 use Rattle.logic.specs.Verdict as meaning
 use Rattle.engine.specs.Places.{fresh, bindAt, placeOf, bindingsOf}
 use Rattle.engine.specs.Ready.{Placed, meant}
@@ -29,9 +30,9 @@ meant-fresh pool = fun-ext (λ v. ap (placeOf pool) (zeros nestingLimit v))
 pub placed-fresh : (pool : List ℕ) → Placed pool fresh
 placed-fresh pool = record { sized = refl; shallow = omega arith; kept = λ v. omega (arith, zeros nestingLimit v) }
 
-module _ (pool : List ℕ) (b : Bindings) (placed : Placed pool b) (room : b .depth < nestingLimit) (p : ℕ) where
+module _ (pool : List ℕ) (b : Bindings) (placed : Placed pool b) (room : b .depth < nestingLimit) (p : ℕ) (low : p ≤ rowLimit) where
   bound-is : bindAt b p ≡ record { row = set (b .row) (b .depth) p; depth = b .depth + 1 }
-  bound-is = rw (lt-ltb (b .depth) nestingLimit room)
+  bound-is = rw (lt-ltb (b .depth) nestingLimit room, le-leb p rowLimit low)
 
   pub row-bind : bindAt b p .row ≡ set (b .row) (b .depth) p
   row-bind = ap (λ (x : Bindings). x .row) bound-is

@@ -28,7 +28,7 @@ use Rattle.engine.specs.declared.bindings.Bindings.{Bindings}
 use Rattle.engine.proofs.Bound.{depth-bind, meant-bind, place-row}
 use Rattle.engine.proofs.Opened.{Opened, opened, not-formula, joined-formula, quantified-formula, compared-formula}
 use Rattle.engine.proofs.Marking.{mark-append, mark-none, mark-place, mark-first, mark-each, mark-none-selected}
-use Rattle.engine.proofs.Steps.{same-true, same-false, connect-open, entry, two, joined-verdict, quantifier, room, quantified-verdict, settled-is, body-verdict, ranged-none, ranged-halves, ranged-one, next-place}
+use Rattle.engine.proofs.Steps.{same-true, same-false, connect-open, entry, two, joined-verdict, quantifier, room, low, quantified-verdict, settled-is, body-verdict, ranged-none, ranged-halves, ranged-one, next-place}
 
 -- ---- a place
 pub mark-one : (p : ℕ) (m : List ℕ) → 0 < p → set m (p - 1) 1 ≡ markAt p m
@@ -253,25 +253,26 @@ module _ (rule pool : List ℕ) (b : Bindings) (e i k : ℕ) (ready : ReadyRows 
   abbrev q : Quantifier
   q = quantifierOf (entryAt rule e .kind)
 
-  body-reason : (j : ℕ) (b′ : Bindings) → b′ ≡ bindAt b (j + 1) → rowAt pool j ∷ reasonAt rule pool b′ (x .a) ≡ withBody rule pool b e (rowAt pool j)
-  body-reason j b′ b-is =
+  body-reason : (j : ℕ) → j + 1 ≤ rowCount pool → (b′ : Bindings) → b′ ≡ bindAt b (j + 1) → rowAt pool j ∷ reasonAt rule pool b′ (x .a) ≡ withBody rule pool b e (rowAt pool j)
+  body-reason j h b′ b-is =
       rw (b-is, x-is)
-      (ap₂ (λ (d : ℕ) (β : meaning.Bindings). rowAt pool j ∷ reason (formulaAt rule (entryAt rule e .a)) (rows pool) d β) (depth-bind pool b (ready .ready .placed) (room rule pool b e i k ready) (j + 1))
-      (meant-bind pool b (ready .ready .placed) (room rule pool b e i k ready) (j + 1) ∙ ap (λ (p : meaning.Place). meaning.bind (b .depth) p (meant pool b)) (place-row pool j)))
+      (ap₂ (λ (d : ℕ) (β : meaning.Bindings). rowAt pool j ∷ reason (formulaAt rule (entryAt rule e .a)) (rows pool) d β)
+      (depth-bind pool b (ready .ready .placed) (room rule pool b e i k ready) (j + 1) (low rule pool b e i k ready (j + 1) h))
+      (meant-bind pool b (ready .ready .placed) (room rule pool b e i k ready) (j + 1) (low rule pool b e i k ready (j + 1) h) ∙ ap (λ (p : meaning.Place). meaning.bind (b .depth) p (meant pool b)) (place-row pool j)))
 
   -- marking a row and then its body's reason
   row-marked : (j : ℕ) → j < rowCount pool → (b′ : Bindings) → b′ ≡ bindAt b (j + 1) → (m : List ℕ)
       → markIn pool (reasonAt rule pool b′ (x .a)) (set m j 1) ≡ markIn pool (concatMap (withBody rule pool b e) (rowAt pool j ∷ [])) m
   row-marked j h b′ b-is m =
       mark-first pool (ready .ready .pool-accepted) j (reasonAt rule pool b′ (x .a)) m h
-      ∙ ap (λ (R : List Row). markIn pool R m) (body-reason j b′ b-is ∙ sym (append-nil (withBody rule pool b e (rowAt pool j))))
+      ∙ ap (λ (R : List Row). markIn pool R m) (body-reason j (omega arith) b′ b-is ∙ sym (append-nil (withBody rule pool b e (rowAt pool j))))
 
   -- a row decides
-  pub decides-row : (z : Bool) → z ≡ rangesAt pool b x (rowAt pool i) → z ≡ true → (b′ : Bindings) → b′ ≡ bindAt b (i + 1) → (v : Bool) → v ≡ verdictAt rule pool b′ (x .a)
+  pub decides-row : i + 1 ≤ rowCount pool → (z : Bool) → z ≡ rangesAt pool b x (rowAt pool i) → z ≡ true → (b′ : Bindings) → b′ ≡ bindAt b (i + 1) → (v : Bool) → v ≡ verdictAt rule pool b′ (x .a)
       → not (Bool·beq v (eqb (x .kind) 5)) ≡ decidesAt rule pool b e i
-  decides-row z z-is h b′ b-is v v-is =
+  decides-row inside z z-is h b′ b-is v v-is =
       unsettled (x .kind) v
-      ∙ ap₂ (λ (y : Entry) (w : Bool). decides (quantifierOf (y .kind)) w) x-is (v-is ∙ body-verdict rule pool b e i k ready x x-is i b′ b-is)
+      ∙ ap₂ (λ (y : Entry) (w : Bool). decides (quantifierOf (y .kind)) w) x-is (v-is ∙ body-verdict rule pool b e i k ready x x-is i inside b′ b-is)
       ∙ ap (λ (c : Bool). c && decides q (bodyAt rule pool b e (rowAt pool i))) (sym (ap (λ (y : Entry). rangesAt pool b y (rowAt pool i)) (sym x-is) ∙ sym z-is ∙ h))
 
   pub decides-not : (z : Bool) → z ≡ rangesAt pool b x (rowAt pool i) → z ≡ false → false ≡ decidesAt rule pool b e i
@@ -350,7 +351,7 @@ module _ (rule pool : List ℕ) (b : Bindings) (e i k : ℕ) (ready : ReadyRows 
       pub deciding-verdict : (b′ : Bindings) → b′ ≡ bindAt b (r + 1) → v ≡ verdictAt rule pool b′ (x .a)
       deciding-verdict b′ b-is =
           both-decide q v (bodyAt rule pool b e (rowAt pool r)) verdict-decides (and-right (rangesAt pool b (entryAt rule e) (rowAt pool r)) _ row-decides)
-          ∙ sym (body-verdict rule pool b e i k ready x x-is r b′ b-is)
+          ∙ sym (body-verdict rule pool b e i k ready x x-is r (omega (arith, deciding-place, ready .place)) b′ b-is)
 
       pub first-marked : (b′ : Bindings) → b′ ≡ bindAt b (r + 1) → (m m′ : List ℕ) → m′ ≡ markIn pool (reasonAt rule pool b′ (x .a)) (set m r 1) → m′ ≡ markIn pool (reasonAt rule pool b e) m
       unfolding test
@@ -392,7 +393,7 @@ module _ (rule pool : List ℕ) (b : Bindings) (e i k : ℕ) (ready : ReadyRows 
       pub one-verdict : eqb (x .kind) 5 ≡ verdictAt rule pool b′ (x .a)
       one-verdict =
           settled-is rule pool b e i k ready x x-is
-          ∙ sym (body-verdict rule pool b e i k ready x x-is r b′ b-is ∙ sym (fold-one q (bodyAt rule pool b e) (rowAt pool r))
+          ∙ sym (body-verdict rule pool b e i k ready x x-is r (omega (arith, ready .place)) b′ b-is ∙ sym (fold-one q (bodyAt rule pool b e) (rowAt pool r))
           ∙ ap (meaning.fold q (bodyAt rule pool b e)) (sym (ranged-one rule pool b e i k ready x x-is r r-is one)) ∙ none)
 
       pub one-marked : (m m′ : List ℕ) → m′ ≡ markIn pool (reasonAt rule pool b′ (x .a)) (set m r 1) → m′ ≡ markIn pool (reasonFrom rule pool b e i k) m

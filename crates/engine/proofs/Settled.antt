@@ -14,6 +14,7 @@ use Rattle.base.proofs.Bools.{either}
 use Rattle.base.proofs.Lists.{concatMap-append}
 use Rattle.tables.specs.Words.{rowAt, rowCount, rows, entryAt}
 use Rattle.tables.specs.Rules.{nestingLimit}
+use Rattle.tables.specs.Tables.{rowLimit}
 use Rattle.tables.specs.declared.Row.{Row}
 use Rattle.tables.specs.declared.Entry.{Entry}
 use Rattle.logic.specs.Formulas.{Connective, and, or, implies, Quantifier, every, some, overOf, operandOf, formulaAt}
@@ -29,19 +30,19 @@ use Rattle.engine.specs.Settling.{Fits, CertainCompared, Certain, KnownP
 use Rattle.engine.specs.declared.bindings.Bindings.{Bindings}
 use Rattle.engine.proofs.Bound.{row-bind, depth-bind}
 use Rattle.engine.proofs.Opened.{not-formula, joined-formula, quantified-formula, compared-formula}
-use Rattle.engine.proofs.Steps.{same-true, same-false, entry, two, quantifier, room, settled-is, part-ready, ranged-none, ranged-halves, ranged-one}
+use Rattle.engine.proofs.Steps.{same-true, same-false, entry, two, quantifier, room, low, settled-is, part-ready, ranged-none, ranged-halves, ranged-one}
 
 -- ---- bindings that fit
 pub fits-meant : (pool : List ℕ) (b : Bindings) → Fits pool b (meant pool b)
 unfolding bindingsOf
 fits-meant pool b v i e = ap (placeOf pool) e
 
-fits-bind : (pool : List ℕ) (b : Bindings) → Placed pool b → b .depth < nestingLimit → (p : ℕ) (P : meaning.Place) → ((i : ℕ) → p ≡ suc i → P ≡ meaning.bound (rowAt pool i))
+fits-bind : (pool : List ℕ) (b : Bindings) → Placed pool b → b .depth < nestingLimit → (p : ℕ) → p ≤ rowLimit → (P : meaning.Place) → ((i : ℕ) → p ≡ suc i → P ≡ meaning.bound (rowAt pool i))
     → (β : meaning.Bindings) → Fits pool b β → Fits pool (bindAt b p) (meaning.bind (b .depth) P β)
-fits-bind pool b placed less p P h β f v i e = go (eqb v (b .depth)) refl
+fits-bind pool b placed less p few P h β f v i e = go (eqb v (b .depth)) refl
   where
     at : getD (set (b .row) (b .depth) p) v 0 ≡ suc i
-    at = ap (λ (l : List ℕ). getD l v 0) (sym (row-bind pool b placed less p)) ∙ e
+    at = ap (λ (l : List ℕ). getD l v 0) (sym (row-bind pool b placed less p few)) ∙ e
 
     go : (c : Bool) → eqb v (b .depth) ≡ c → cond (eqb v (b .depth)) P (β v) ≡ meaning.bound (rowAt pool i)
     go true k = rw k (h i (sym (getD-set-same (b .row) (b .depth) p 0 (omega (arith, placed .sized))) ∙ ap (λ (n : ℕ). getD (set (b .row) (b .depth) p) n 0) (sym (eqb-true v (b .depth) k)) ∙ at))
@@ -278,15 +279,15 @@ module _ (rule pool : List ℕ) (b : Bindings) (e i k : ℕ) (ready : ReadyRows 
           (known-same pool b β f v (λ q. g (λ s. omega arith) (ap (λ (n : ℕ). getD (b .row) n 0) z ∙ q)))
 
   -- its body, with one more variable bound
-  module _ (p : ℕ) (b′ : Bindings) (b-is : b′ ≡ bindAt b p) (want same r : Bool) (c : Certain rule pool b′ (x .a) want same r) (h : r ≡ true) where
+  module _ (p : ℕ) (inside : p ≤ rowCount pool) (b′ : Bindings) (b-is : b′ ≡ bindAt b p) (want same r : Bool) (c : Certain rule pool b′ (x .a) want same r) (h : r ≡ true) where
     -- bindings that fit, with a row for the variable
     fits-row : (β : meaning.Bindings) → Fits pool b β → (y : Row) → ((j : ℕ) → p ≡ suc j → meaning.bound y ≡ meaning.bound (rowAt pool j)) → Fits pool b′ (meaning.bind (b .depth) (meaning.bound y) β)
     fits-row β f y g =
         subst (λ (z : Bindings). Fits pool z (meaning.bind (b .depth) (meaning.bound y) β)) (sym b-is)
-        (fits-bind pool b (ready .ready .placed) (room rule pool b e i k ready) p (meaning.bound y) g β f)
+        (fits-bind pool b (ready .ready .placed) (room rule pool b e i k ready) p (low rule pool b e i k ready p inside) (meaning.bound y) g β f)
 
     depth-is : suc (b .depth) ≡ b′ .depth
-    depth-is = sym (ap (λ (z : Bindings). z .depth) b-is ∙ depth-bind pool b (ready .ready .placed) (room rule pool b e i k ready) p)
+    depth-is = sym (ap (λ (z : Bindings). z .depth) b-is ∙ depth-bind pool b (ready .ready .placed) (room rule pool b e i k ready) p (low rule pool b e i k ready p inside))
 
     body-certain : (β : meaning.Bindings) → Fits pool b β → (y : Row) → ((j : ℕ) → p ≡ suc j → meaning.bound y ≡ meaning.bound (rowAt pool j)) → bodyWith rule pool b e β y ≡ want
     body-certain β f y g =
@@ -311,7 +312,7 @@ module _ (rule pool : List ℕ) (b : Bindings) (e i k : ℕ) (ready : ReadyRows 
   all-sure want same h b′ b-is r c g β f =
       over-table β
       ∙ fold-all (quantifierOf (entryAt rule e .kind)) (bodyWith rule pool b e β) (select (meaning.ranges (overOf (entryAt rule e .b)) (entryAt rule e .c) β) (rows pool))
-      (λ y. body-certain 0 b′ b-is want same r c g β f y (λ j z. absurd (omega arith)) ∙ want-is)
+      (λ y. body-certain 0 (omega arith) b′ b-is want same r c g β f y (λ j z. absurd (omega arith)) ∙ want-is)
       ∙ sym want-is
     where
       want-is : want ≡ meaning.settled (quantifierOf (entryAt rule e .kind))
@@ -345,7 +346,7 @@ module _ (rule pool : List ℕ) (b : Bindings) (e i k : ℕ) (ready : ReadyRows 
     certain-all h b′ b-is r c = record {
       sure = all-sure want same h b′ b-is r c;
       alike = λ g t β f. steady-alike t β f (all-sure want same h b′ b-is r c g β f) (all-sure want same h b′ b-is r c g (meant pool b) (fits-meant pool b))
-          (ap (λ (F : Row → List Row). concatMap F (rangedFrom rule pool b e 0 (rowCount pool))) (fun-ext (λ y. body-same 0 b′ b-is want same r c g t β f y (λ j z. absurd (omega arith)))));
+          (ap (λ (F : Row → List Row). concatMap F (rangedFrom rule pool b e 0 (rowCount pool))) (fun-ext (λ y. body-same 0 (omega arith) b′ b-is want same r c g t β f y (λ j z. absurd (omega arith)))));
     }
 
   pub settles-not : (same : Bool) → Settles rule pool b e same false
@@ -355,7 +356,7 @@ module _ (rule pool : List ℕ) (b : Bindings) (e i k : ℕ) (ready : ReadyRows 
   settles-all same b′ b-is r c = record {
     sure = λ h. ap (λ (z : Entry). eqb (z .kind) 5) (sym x-is) ∙ sym (all-sure (eqb (x .kind) 5) same (equal (eqb (x .kind) 5)) b′ b-is r c h (meant pool b) (fits-meant pool b));
     body = λ h. ap (λ (z : Entry). eqb (z .kind) 5) (sym x-is) ∙ sym (c .sure h (meant pool b′) (fits-meant pool b′)) ∙ ap₂ (λ (z : Bindings) (w : Entry). verdictAt rule pool z (w .a)) b-is x-is;
-    alike = λ h t y. body-alike 0 b′ b-is (eqb (x .kind) 5) same r c h t (meant pool b) (fits-meant pool b) y (λ j z. absurd (omega arith))
+    alike = λ h t y. body-alike 0 (omega arith) b′ b-is (eqb (x .kind) 5) same r c h t (meant pool b) (fits-meant pool b) y (λ j z. absurd (omega arith))
         ∙ ap₂ (λ (z : Bindings) (w : Entry). y ∷ reasonAt rule pool z (w .a)) b-is x-is;
   }
     where
@@ -450,14 +451,17 @@ module _ (rule pool : List ℕ) (b : Bindings) (e i k : ℕ) (ready : KnownRows 
     scan-one h b′ b-is v c = record {
       sure = λ g β f. ap (meaning.fold (quantifierOf (entryAt rule e .kind)) (bodyWith rule pool b e β)) one-ranged
           ∙ fold-one (quantifierOf (entryAt rule e .kind)) (bodyWith rule pool b e β) (rowAt pool r)
-          ∙ body-certain rule pool b e i k (ready .ready) x x-is (r + 1) b′ b-is want same v c g β f (rowAt pool r) this-row;
+          ∙ body-certain rule pool b e i k (ready .ready) x x-is (r + 1) this-place b′ b-is want same v c g β f (rowAt pool r) this-row;
       alike = λ g t a β f. ap (concatMap (withReason rule pool b e β)) one-ranged
-          ∙ ap (λ (R : List Row). R ++ []) (body-same rule pool b e i k (ready .ready) x x-is (r + 1) b′ b-is want same v c g t β f (rowAt pool r) this-row)
+          ∙ ap (λ (R : List Row). R ++ []) (body-same rule pool b e i k (ready .ready) x x-is (r + 1) this-place b′ b-is want same v c g t β f (rowAt pool r) this-row)
           ∙ sym (ap (concatMap (withBody rule pool b e)) one-ranged);
     }
       where
         one-ranged : rangedFrom rule pool b e i k ≡ rowAt pool r ∷ []
         one-ranged = ranged-one rule pool b e i k (ready .ready) x x-is r r-is h
+
+        this-place : r + 1 ≤ rowCount pool
+        this-place = omega (arith, ready .ready .place)
 
         this-row : (j : ℕ) → r + 1 ≡ suc j → meaning.bound (rowAt pool r) ≡ meaning.bound (rowAt pool j)
         this-row j z = ap (λ (n : ℕ). meaning.bound (rowAt pool n)) (let q : r ≡ j = omega arith in q)

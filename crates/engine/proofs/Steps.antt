@@ -10,6 +10,8 @@ use Rattle.base.specs.Search.{first}
 use Rattle.base.proofs.Search.{first-le, none-before, at-first}
 use Rattle.tables.specs.Words.{rowAt, rowCount, rows, rowsFrom, entryAt, entryCount}
 use Rattle.tables.specs.Rules.{nestingLimit, around}
+use Rattle.tables.specs.Tables.{rowLimit}
+use Rattle.tables.proofs.Accepted.{few-rows}
 use Rattle.tables.specs.declared.Entry.{Entry}
 use Rattle.logic.specs.Formulas.{Connective, and, or, implies, every, some, formulaAt}
 use Rattle.logic.specs.Verdict as meaning
@@ -160,6 +162,10 @@ module _ (rule pool : List ℕ) (b : Bindings) (e i k : ℕ) (ready : ReadyRows 
   pub room : b .depth < nestingLimit
   room = omega (arith, quantifier .nesting (ready .over-four) (ready .below-seven), ready .ready .depth-is)
 
+  -- the bindings hold the place of any row
+  pub low : (p : ℕ) → p ≤ rowCount pool → p ≤ rowLimit
+  low p h = omega (arith, few-rows pool (ready .ready .pool-accepted))
+
   -- the quantifier's verdict is that over the rows that it ranges over
   pub quantified-verdict : rangedFrom rule pool b e i k ≡ rangedFrom rule pool b e 0 (rowCount pool) → (r : Bool) → r ≡ verdictFrom rule pool b e i k → r ≡ verdictAt rule pool b e
   unfolding meaning.holds
@@ -184,15 +190,15 @@ module _ (rule pool : List ℕ) (b : Bindings) (e i k : ℕ) (ready : ReadyRows 
           rule-accepted = ready .ready .rule-accepted;
           pool-accepted = ready .ready .pool-accepted;
           inside = quantifier .child (ready .below-seven) .1;
-          depth-is = omega (arith, depth-bind pool b (ready .ready .placed) room p, quantifier .body-depth (ready .over-four) (ready .below-seven), ready .ready .depth-is);
-          placed = placed-bind pool b (ready .ready .placed) room p h;
+          depth-is = omega (arith, depth-bind pool b (ready .ready .placed) room p (low p h), quantifier .body-depth (ready .over-four) (ready .below-seven), ready .ready .depth-is);
+          placed = placed-bind pool b (ready .ready .placed) room p (low p h) h;
         })
 
-    pub body-verdict : (j : ℕ) (b′ : Bindings) → b′ ≡ bindAt b (j + 1) → verdictAt rule pool b′ (x .a) ≡ bodyAt rule pool b e (rowAt pool j)
-    body-verdict j b′ b-is =
+    pub body-verdict : (j : ℕ) → j + 1 ≤ rowCount pool → (b′ : Bindings) → b′ ≡ bindAt b (j + 1) → verdictAt rule pool b′ (x .a) ≡ bodyAt rule pool b e (rowAt pool j)
+    body-verdict j h b′ b-is =
         rw (b-is, x-is)
-        (ap₂ (meaning.holds (formulaAt rule (entryAt rule e .a)) (rows pool)) (depth-bind pool b (ready .ready .placed) room (j + 1))
-        (meant-bind pool b (ready .ready .placed) room (j + 1) ∙ ap (λ (p : meaning.Place). meaning.bind (b .depth) p (meant pool b)) (place-row pool j)))
+        (ap₂ (meaning.holds (formulaAt rule (entryAt rule e .a)) (rows pool)) (depth-bind pool b (ready .ready .placed) room (j + 1) (low (j + 1) h))
+        (meant-bind pool b (ready .ready .placed) room (j + 1) (low (j + 1) h) ∙ ap (λ (p : meaning.Place). meaning.bind (b .depth) p (meant pool b)) (place-row pool j)))
 
     pub settled-is : eqb (x .kind) 5 ≡ meaning.settled (quantifierOf (entryAt rule e .kind))
     settled-is = sym (settled-kind (x .kind)) ∙ ap (λ (z : Entry). meaning.settled (quantifierOf (z .kind))) x-is
@@ -248,6 +254,6 @@ module _ (rule pool : List ℕ) (b : Bindings) (e i k : ℕ) (ready : ReadyRows 
 
       pub walk-one : i + k - r ≡ 1 → (b′ : Bindings) → b′ ≡ bindAt b (r + 1) → (v : Bool) → v ≡ verdictAt rule pool b′ (x .a) → v ≡ verdictFrom rule pool b e i k
       walk-one h b′ b-is v v-is =
-          v-is ∙ body-verdict r b′ b-is
+          v-is ∙ body-verdict r (omega (arith, ready .place)) b′ b-is
           ∙ sym (ap (meaning.fold (quantifierOf (entryAt rule e .kind)) (bodyAt rule pool b e)) (ranged-one h)
           ∙ fold-one (quantifierOf (entryAt rule e .kind)) (bodyAt rule pool b e) (rowAt pool r))

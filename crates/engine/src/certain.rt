@@ -189,7 +189,7 @@ fn is_wide(pool: &[u32], b: Bindings, e: Entry) -> bool
     requires { ⌜ e .b ≤ nestingLimit ⌝ }
 {
     let under = e.b as usize;
-    if under == b.depth {
+    if under == b.depth as usize {
         return false;
     }
     if under == 0 {

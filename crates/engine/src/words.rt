@@ -57,7 +57,7 @@ pub(crate) fn place_of(b: Bindings, variable: usize) -> usize
     requires { ⌜ variable < nestingLimit ⌝ }
     ensures { λ r. ⌜ r ≡ getD (b .row) variable 0 ⌝ }
 {
-    b.row[variable]
+    b.row[variable] as usize
 }
 
 // The value at a place.

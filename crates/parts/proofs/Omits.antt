@@ -13,9 +13,10 @@ use lib.Dec.{eqb}
 use borrow.Author.Tests.{eq-eqb, ne-eqb}
 use Rattle.base.specs.Lists.{when, all, any}
 use Rattle.tables.specs.Words.{rowAt, rows, entryAt, entryCount}
-use Rattle.tables.specs.Rules.{nestingLimit, around}
+use Rattle.tables.specs.Rules.{entryLimit, nestingLimit, around}
 use Rattle.tables.specs.declared.Row.{Row}
 use Rattle.tables.specs.declared.Entry.{Entry}
+use Rattle.tables.proofs.AcceptedRule.{few-entries}
 use Rattle.logic.specs.Formulas.{Formula, negation, joined, quantified, compared, Quantifier, Connective, Comparison, Over, Operand, overOf, formulaAt}
 use Rattle.logic.specs.Verdict.{Bindings, settled}
 use Rattle.logic.specs.Reading.{reading, reads}
@@ -164,6 +165,9 @@ module _ {rule t parents : List ℕ} {by : Binders} {e i : ℕ} (ready : ReadyOm
   module _ (high : 5 ≤ x .kind) (low : x .kind ≤ 6) where
     pub room : by .depth < nestingLimit
     room = omega (arith, opens .nesting high low, ready .depth-is)
+
+    pub with-room : (by .depth < nestingLimit) × (e < entryLimit)
+    with-room = (room, omega (arith, ready .inside, few-entries rule (ready .rule-accepted)))
 
     body-later : (e < x .a) × (x .a < entryCount rule)
     body-later = opens .child low

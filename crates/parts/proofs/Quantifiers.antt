@@ -65,7 +65,7 @@ module _ {rule t : List ℕ} {b : Bindings} {e : ℕ} (ready : ReadyRows rule t 
     pub elsewhere-reads : Bool·beq w (eqb (x .kind) 5) ≡ true → {b′ : Bindings} → b′ ≡ bindAt b 0 → {r : Bool} → r ≡ readsAt rule t b′ (x .a) w → r ≡ readsAt rule t b e w
     elsewhere-reads h b-is r-is =
         let w-is : w ≡ settled q-at = entries.same-true w (eqb (x .kind) 5) h ∙ settles ready x-is in
-        r-is ∙ body-reads ready x-is w 0 b-is
+        r-is ∙ body-reads ready x-is w 0 (omega arith) b-is
         ∙ ap (λ (v : Bool). meaning.reads v (body nothing)) w-is
         ∙ sym (go (x .b) (sym p-is ∙ none))
         ∙ ap (λ (v : Bool). meaning.reads v (over-reading (x .b))) (sym w-is)
@@ -98,7 +98,7 @@ module _ {rule t : List ℕ} {b : Bindings} {e : ℕ} (ready : ReadyRows rule t 
       spared-reads z b-is r-is f =
           let settles-elsewhere : meaning.secondTest q-at body ≡ true
           = ap (λ (v : Bool). meaning.reads v (body nothing)) (sym (ap not deciding ∙ Bool·not-not (settled q-at)))
-          ∙ sym (body-reads ready x-is (not w) 0 b-is) ∙ sym r-is ∙ f in
+          ∙ sym (body-reads ready x-is (not w) 0 (omega arith) b-is) ∙ sym r-is ∙ f in
           sym (roots-decided q-at body own ∙ no-first settles-elsewhere)
           ∙ ap₂ (λ (v : Bool) (u : ℕ). meaning.reads v (over-reading u)) (sym deciding) (sym z)
           ∙ quantified-reads w

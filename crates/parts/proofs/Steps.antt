@@ -102,12 +102,12 @@ module _ {rule t : List ℕ} {b : Bindings} {e i k : ℕ} (ready : ReadyRows rul
   over-limit = entries.over-limit rule t b e i k ready x x-is
 
   -- the body, with its own variable at a place
-  pub body-reads : (w : Bool) (p : ℕ) {b′ : Bindings} → b′ ≡ bindAt b p → readsAt rule t b′ (x .a) w ≡ meaning.reads w (body (placeOf t p))
-  body-reads w p b-is =
+  pub body-reads : (w : Bool) (p : ℕ) → p ≤ rowCount t → {b′ : Bindings} → b′ ≡ bindAt b p → readsAt rule t b′ (x .a) w ≡ meaning.reads w (body (placeOf t p))
+  body-reads w p h b-is =
       rw (b-is, x-is)
       (ap (meaning.reads w) (ap₂ (meaning.reading (formulaAt rule (entryAt rule e .a)) (rows t))
-      (depth-bind t b (ready .ready .placed) (entries.room rule t b e i k ready) p)
-      (meant-bind t b (ready .ready .placed) (entries.room rule t b e i k ready) p)))
+      (depth-bind t b (ready .ready .placed) (entries.room rule t b e i k ready) p (entries.low rule t b e i k ready p h))
+      (meant-bind t b (ready .ready .placed) (entries.room rule t b e i k ready) p (entries.low rule t b e i k ready p h))))
 
   body-ready : (p : ℕ) → p ≤ rowCount t → {b′ : Bindings} → b′ ≡ bindAt b p → Ready rule t b′ (x .a)
   body-ready p h {b′} b-is = entries.bound-ready rule t b e i k ready x x-is p h b′ b-is
@@ -157,7 +157,7 @@ module _ {rule t : List ℕ} {b : Bindings} {e i k : ℕ} (ready : ReadyRows rul
 
     pub sweep-one : i + k - r ≡ 1 → {b′ : Bindings} → b′ ≡ bindAt b (r + 1) → {o : Bool} → o ≡ readsAt rule t b′ (x .a) w → o ≡ sweepsAt rule t b e w i k
     sweep-one h b-is o-is =
-        o-is ∙ body-reads w (r + 1) b-is ∙ ap (λ (p : Place). meaning.reads w (body p)) (place-row t r)
+        o-is ∙ body-reads w (r + 1) (omega (arith, ready .place)) b-is ∙ ap (λ (p : Place). meaning.reads w (body p)) (place-row t r)
         ∙ sym (under-one q-at body w (rowAt t r))
         ∙ ap rows-read (sym (entries.ranged-one rule t b e i k ready x x-is r r-is h))
 

@@ -5,14 +5,14 @@ use engine::Bindings;
 ghost use mathlib.Core.Path.{_≡_};
 ghost use Prim.Native.Nat.{_<_};
 ghost use lib.ListN.{getD};
-ghost use Rattle.tables.specs.Rules.{nestingLimit};
+ghost use Rattle.tables.specs.Rules.{entryLimit, nestingLimit};
 ghost use Rattle.tables.specs.Tables.{rowLimit};
 ghost use Rattle.parts.specs.Reaching.{noBinders, withBinder, notReached, bindsFrom, ReadyClimb, Climbed};
 
 // The quantifiers around an entry: variable v is bound by the quantifier at entry[v], and the first `depth` variables are bound.
 pub struct Binders {
-    pub entry: [usize; Bindings::LIMIT],
-    pub depth: usize,
+    pub entry: [u16; Bindings::LIMIT],
+    pub depth: u16,
 }
 
 impl Binders {
@@ -27,12 +27,12 @@ impl Binders {
 
     // One more quantifier.
     pub(crate) fn with(mut self, entry: usize) -> Self
-        requires { ⌜ self .depth < nestingLimit ⌝ }
+        requires { ⌜ (self .depth < nestingLimit) × (entry < entryLimit) ⌝ }
         ensures { λ r. ⌜ r ≡ withBinder self entry ⌝ }
     {
-        let at = self.depth;
-        self.entry[at] = entry;
-        self.depth = at + 1;
+        let at = self.depth as usize;
+        self.entry[at] = entry as u16;
+        self.depth = (at + 1) as u16;
         self
     }
 
@@ -41,7 +41,7 @@ impl Binders {
         requires { ⌜ variable < nestingLimit ⌝ }
         ensures { λ r. ⌜ r ≡ getD (self .entry) variable 0 ⌝ }
     {
-        self.entry[variable]
+        self.entry[variable] as usize
     }
 }
 
@@ -62,13 +62,13 @@ fn not_reached() -> Chain
 
 // The bindings of a chain with one more variable, bound to a row.
 fn reached_from(b: Bindings, variable: usize, row: usize) -> Chain
-    requires { ⌜ row < rowLimit ⌝ }
+    requires { ⌜ (variable < nestingLimit) × (row < rowLimit) ⌝ }
     ensures { λ r. ⌜ r ≡ bindsFrom b variable row ⌝ }
 {
     let places = b.row;
     let below = Bindings {
         row: places,
-        depth: variable,
+        depth: variable as u16,
     };
     Chain {
         found: true,

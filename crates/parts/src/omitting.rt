@@ -65,7 +65,7 @@ pub(crate) fn omits(
     if 6 < e.kind {
         return true;
     }
-    let chain = climb(rule, table, parents, by, by.depth, entry, row);
+    let chain = climb(rule, table, parents, by, by.depth as usize, entry, row);
     if lets_out(rule, table, ends, chain, e.kind, a, mode) {
         return omits(rule, table, parents, ends, by.with(entry), a, row, mode);
     }

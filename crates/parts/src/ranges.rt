@@ -14,7 +14,7 @@ pub(crate) fn place_of(b: Bindings, variable: usize) -> usize
     requires { ⌜ variable < nestingLimit ⌝ }
     ensures { λ r. ⌜ r ≡ getD (b .row) variable 0 ⌝ }
 {
-    b.row[variable]
+    b.row[variable] as usize
 }
 
 // The place of the parent that b of a quantifier names: 0 for roots, and where it is elsewhere.

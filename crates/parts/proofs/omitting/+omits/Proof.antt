@@ -112,58 +112,62 @@ omits-returns-4 t c =
     let x-is = c .before .before .before .before .before .before .before .entry-at .ensures in
     laws.omit-compared ready m x-is (c .if4 .taken)
 
+omits-cast-climb : (t : ℕ) → omits-lts.Need-cast-climb (omits-claims t) (omits-at t) omits.Post
+omits-cast-climb t c =
+    search needs
+
 omits-climb-requires : (t : ℕ) → omits-lts.Need-climb-requires (omits-claims t) (omits-at t) omits.Post
 omits-climb-requires t c κs =
-    let s = c .before .before .before .before .before .before .before .before .before .before .before .before in
-    let ready = s .pre .1 .0 in
-    let m = s .args .mode in
-    let x-is = c .before .before .before .before .before .before .before .entry-at .ensures in
-    laws.climb-ready ready m x-is (c .before .before .if2 .left) (c .if4 .left)
-
-omits-lets-out-requires : (t : ℕ) → omits-lts.Need-lets-out-requires (omits-claims t) (omits-at t) omits.Post
-omits-lets-out-requires t c κs =
     let s = c .before .before .before .before .before .before .before .before .before .before .before .before .before in
     let ready = s .pre .1 .0 in
     let m = s .args .mode in
     let x-is = c .before .before .before .before .before .before .before .before .entry-at .ensures in
-    (laws.body-ready ready m x-is (c .before .before .before .if2 .left) (c .before .if4 .left) (c .climb .ensures), s .pre .1 .1)
+    laws.climb-ready ready m x-is (c .before .before .before .if2 .left) (c .before .if4 .left)
+
+omits-lets-out-requires : (t : ℕ) → omits-lts.Need-lets-out-requires (omits-claims t) (omits-at t) omits.Post
+omits-lets-out-requires t c κs =
+    let s = c .before .before .before .before .before .before .before .before .before .before .before .before .before .before in
+    let ready = s .pre .1 .0 in
+    let m = s .args .mode in
+    let x-is = c .before .before .before .before .before .before .before .before .before .entry-at .ensures in
+    (laws.body-ready ready m x-is (c .before .before .before .before .if2 .left) (c .before .before .if4 .left) (c .climb .ensures), s .pre .1 .1)
 
 omits-with-requires : (t : ℕ) → omits-lts.Need-with-requires (omits-claims t) (omits-at t) omits.Post
 omits-with-requires t c κs =
-    let s = c .before .before .before .before .before .before .before .before .before .before .before .before .before .before .before in
-    let ready = s .pre .1 .0 in
-    let m = s .args .mode in
-    let x-is = c .before .before .before .before .before .before .before .before .before .before .entry-at .ensures in
-    laws.room ready m x-is (c .before .before .before .before .before .if2 .left) (c .before .before .before .if4 .left)
-
-omits-omits-requires-4 : (t : ℕ) → omits-lts.Need-omits-requires-4 (omits-claims t) (omits-at t) omits.Post
-omits-omits-requires-4 t c κs =
     let s = c .before .before .before .before .before .before .before .before .before .before .before .before .before .before .before .before in
     let ready = s .pre .1 .0 in
     let m = s .args .mode in
     let x-is = c .before .before .before .before .before .before .before .before .before .before .before .entry-at .ensures in
-    let h = laws.body-call ready m x-is (c .before .before .before .before .before .before .if2 .left) (c .before .before .before .before .if4 .left)
+    laws.with-room ready m x-is (c .before .before .before .before .before .before .if2 .left) (c .before .before .before .before .if4 .left)
+
+omits-omits-requires-4 : (t : ℕ) → omits-lts.Need-omits-requires-4 (omits-claims t) (omits-at t) omits.Post
+omits-omits-requires-4 t c κs =
+    let s = c .before .before .before .before .before .before .before .before .before .before .before .before .before .before .before .before .before in
+    let ready = s .pre .1 .0 in
+    let m = s .args .mode in
+    let x-is = c .before .before .before .before .before .before .before .before .before .before .before .before .entry-at .ensures in
+    let h = laws.body-call ready m x-is (c .before .before .before .before .before .before .before .if2 .left) (c .before .before .before .before .before .if4 .left)
     (c .before .before .before .climb .ensures) (c .before .before .lets-out .ensures) (c .with .ensures) (s .pre .0) in
     (h .0, (h .1, s .pre .1 .1))
 
 omits-returns-5 : (t : ℕ) → omits-lts.Need-returns-5 (omits-claims t) (omits-at t) omits.Post
 omits-returns-5 t c =
-    let s = c .before .before .before .before .before .before .before .before .before .before .before .before .before .before .before .before .before
+    let s = c .before .before .before .before .before .before .before .before .before .before .before .before .before .before .before .before .before .before
     in
     let ready = s .pre .1 .0 in
     let m = s .args .mode in
-    let x-is = c .before .before .before .before .before .before .before .before .before .before .before .before .entry-at .ensures in
-    laws.omit-body ready m x-is (c .before .before .before .before .before .before .before .if2 .left)
-    (c .before .before .before .before .before .if4 .left) (c .before .before .before .before .climb .ensures)
+    let x-is = c .before .before .before .before .before .before .before .before .before .before .before .before .before .entry-at .ensures in
+    laws.omit-body ready m x-is (c .before .before .before .before .before .before .before .before .if2 .left)
+    (c .before .before .before .before .before .before .if4 .left) (c .before .before .before .before .climb .ensures)
     (c .before .before .before .lets-out .ensures) (c .before .with .ensures) (c .before .before .if5 .taken) (c .omits4 .ensures)
 
 omits-returns-6 : (t : ℕ) → omits-lts.Need-returns-6 (omits-claims t) (omits-at t) omits.Post
 omits-returns-6 t c =
-    let s = c .before .before .before .before .before .before .before .before .before .before .before .before .before .before .before in
+    let s = c .before .before .before .before .before .before .before .before .before .before .before .before .before .before .before .before in
     let ready = s .pre .1 .0 in
     let m = s .args .mode in
-    let x-is = c .before .before .before .before .before .before .before .before .before .before .entry-at .ensures in
-    laws.omit-own ready m x-is (c .before .before .before .before .before .if2 .left) (c .before .before .before .if4 .left)
+    let x-is = c .before .before .before .before .before .before .before .before .before .before .before .entry-at .ensures in
+    laws.omit-own ready m x-is (c .before .before .before .before .before .before .if2 .left) (c .before .before .before .before .if4 .left)
     (c .before .before .climb .ensures) (c .before .lets-out .ensures) (c .if5 .left)
 
 pub +omits-spec : {M : Type 1} → statement M
@@ -171,5 +175,5 @@ pub +omits-spec : {M : Type 1} → statement M
     close μ-omits
     (λ t. omits-lts.spec (omits-claims t) (omits-at t) omits.Post (omits-entry-at-requires t) (omits-cast-a t) (omits-omits-requires t)
     (omits-returns t) (omits-omits-requires-2 t) (omits-cast-omits t) (omits-omits-requires-3 t) (omits-returns-2 t) (omits-returns-3 t)
-    (omits-returns-4 t) (omits-climb-requires t) (omits-lets-out-requires t) (omits-with-requires t) (omits-omits-requires-4 t) (omits-returns-5 t)
+    (omits-returns-4 t) (omits-cast-climb t) (omits-climb-requires t) (omits-lets-out-requires t) (omits-with-requires t) (omits-omits-requires-4 t) (omits-returns-5 t)
     (omits-returns-6 t))
