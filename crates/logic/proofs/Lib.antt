@@ -14,5 +14,6 @@ pub mod Joinings
 pub mod Calls
 pub mod Demand
 pub mod Formulas
+pub mod Nesting
 pub mod Walks
 pub mod Reasons

@@ -1,4 +1,5 @@
 pub mod Formulas
+pub mod Nesting
 pub mod Verdict
 pub mod Marks
 pub mod Reading

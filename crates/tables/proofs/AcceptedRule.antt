@@ -12,11 +12,13 @@ use borrow.Author.Tests.{lt-ltb, ltb-false, leb-true, leb-false, eqb-true, eq-eq
 use Rattle.base.specs.Lists.{_∈_}
 use Rattle.base.specs.Search.{sumBelow}
 use Rattle.base.proofs.Bools.{either, and-left, and-right, and-both, or-left, or-right}
-use Rattle.tables.specs.Answers.{inOrder}
+use Rattle.tables.specs.Answers.{number, unless, inOrder}
 use Rattle.tables.specs.Words.{whole, entryWords, entryAt, entryCount}
 use Rattle.tables.specs.Rules.{nestingLimit, isQuantifier, isConnective, isComparison, hasChild, one, namings, isChild, timesNamed, aroundFrom, around, unknownKind, badPlace, badChild, badNaming, tooDeep, unbound, entryFault, ruleLength, checkRule, acceptedRule}
 use Rattle.tables.specs.declared.Entry.{Entry}
-use Rattle.tables.proofs.Answers.{unless-ok, unless-next, no-fault}
+use Rattle.tables.specs.declared.Answer.{Answer}
+use Rattle.tables.specs.declared.Answer.the-variants.{Refused}
+use Rattle.tables.proofs.Answers.{unless-ok, unless-next, no-fault, FirstAtFault, first-at-fault}
 
 -- the numbers of the checks of entries, in their order
 abbrev checks : List ℕ
@@ -195,3 +197,12 @@ module _ (r : List ℕ) (ok : acceptedRule r ≡ true) where
       right-bound e =
           leb-false (around r i) (entryAt r i .c)
           (clear (entryAt r i) (eqb (entryAt r i .b) 0) _ (or-right (leb (around r i) (entryAt r i .a)) _ compared-ok) (eq-eqb (entryAt r i .b) 0 e))
+
+-- ---- a refused rule: but for 1, the place is the first entry with the fault of that number
+pub refused-rule : (r : List ℕ) (k p : ℕ) → 1 < k → checkRule r ≡ Refused k p → FirstAtFault (entryFault r) k p
+unfolding checkRule
+refused-rule r k p h e = first-at-fault (entryFault r) (entryCount r) k p checks (past-length (ruleLength r) _ e)
+  where
+    past-length : (ok : Bool) (next : Answer) → unless ok 1 next ≡ Refused k p → next ≡ Refused k p
+    past-length true next q = q
+    past-length false next q = absurd (let z : 1 ≡ k = ap number q in omega arith)

@@ -1,12 +1,14 @@
 -- What an accepted answer tells of the checks before it, and when checks are passed. Assumes nothing.
 use Prim.Native.Nat.{ℕ, _<_}
-use mathlib.Core.Path.{_≡_, refl}
-use mathlib.Core.Bool.{Bool, true, false, cond, false≢true}
+use mathlib.Core.Path.{_≡_, refl, ap, subst}
+use mathlib.Core.Bool.{Bool, true, false, cond, true≢false, false≢true}
 use mathlib.Core.List.{List, [], _∷_, List·Memᴰ·head, List·Memᴰ·tail}
+use borrow.Author.Tests.{ltb-true}
 use Rattle.base.specs.Lists.{_∈_}
 use Rattle.base.specs.Search.{first, some}
-use Rattle.base.proofs.Search.{some-none, none-at}
-use Rattle.tables.specs.Answers.{isDone, andThen, unless, unlessAny, inOrder}
+use Rattle.base.proofs.Bools.{either}
+use Rattle.base.proofs.Search.{some-none, none-at, none-before, at-first}
+use Rattle.tables.specs.Answers.{number, place, isDone, andThen, unless, unlessAny, inOrder}
 use Rattle.tables.specs.declared.Answer.{Answer}
 use Rattle.tables.specs.declared.Answer.the-variants.{Done, Refused}
 
@@ -60,3 +62,21 @@ module _ (fault : ℕ → ℕ → Bool) (n : ℕ) where
   in-order-passed (x ∷ ks) h =
       let e : inOrder fault n ks ≡ Done n = in-order-passed ks (λ k m. h k (List·Memᴰ·tail m)) in
       rw (unlessAny-passed (fault x) x n (inOrder fault n ks) (h x (List·Memᴰ·head refl))) e
+
+-- ---- a refusal: its place is the first one with the fault of its number
+pub record FirstAtFault (fault : ℕ → ℕ → Bool) (k p : ℕ) : Type 0 where
+  pub at-fault : fault k p ≡ true
+  pub none-earlier : (i : ℕ) → i < p → fault k i ≡ false
+
+module _ (fault : ℕ → ℕ → Bool) (n k p : ℕ) where
+  found : (x : ℕ) → some (fault x) n ≡ true → Refused x (first (fault x) n) ≡ Refused k p → FirstAtFault fault k p
+  found x s e =
+      subst (FirstAtFault fault k) (ap place e)
+      (subst (λ (y : ℕ). FirstAtFault fault y (first (fault x) n)) (ap number e)
+      (record { at-fault = at-first (fault x) n (ltb-true _ _ s); none-earlier = none-before (fault x) n }))
+
+  pub first-at-fault : (ks : List ℕ) → inOrder fault n ks ≡ Refused k p → FirstAtFault fault k p
+  first-at-fault [] e = absurd (true≢false (ap isDone e))
+  first-at-fault (x ∷ ks) e = either (some (fault x) n)
+      (λ s. found x s (rw s at e))
+      (λ s. first-at-fault ks (rw s at e))

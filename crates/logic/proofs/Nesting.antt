@@ -1,0 +1,132 @@
+-- An accepted rule has no more levels than the limit, and 6 is given at the first quantifier too many. Assumes nothing.
+use Prim.Native.Nat.{ℕ, zero, suc, _+_, _-_, _≤_, _<_, max}
+use mathlib.Core.Path.{_≡_, sym, _∙_}
+use mathlib.Core.Bool.{true, _&&_, true≢false}
+use mathlib.Core.List.{List}
+use native.Mathlib.Nat.{max-le}
+use native.Mathlib.Omega.{arith}
+use lib.Dec.{ltb, leb}
+use borrow.Author.Tests.{le-leb, leb-true, ltb-true, ltb-false}
+use Rattle.base.proofs.Bools.{either, and-left, and-right, and-both}
+use Rattle.tables.specs.Words.{entryAt, entryCount}
+use Rattle.tables.specs.Rules.{nestingLimit, isQuantifier, isChild, one, aroundFrom, around, entryFault, checkRule, acceptedRule}
+use Rattle.tables.specs.declared.Entry.{Entry}
+use Rattle.tables.specs.declared.Answer.the-variants.{Refused}
+use Rattle.tables.proofs.AcceptedRule as entries
+use Rattle.tables.proofs.AcceptedRule.{refused-rule}
+use Rattle.tables.proofs.Answers.{FirstAtFault}
+use Rattle.logic.specs.Formulas.{Formula, build, formulaAt, formula}
+use Rattle.logic.specs.Nesting.{levels, Limited, LevelsLimited}
+use Rattle.logic.proofs.Formulas.{formula-at}
+
+-- ---- the levels of an entry around which d quantifiers stand
+two-sides : (d l x y : ℕ) → d + x ≤ l → d + y ≤ l → d + max x y ≤ l
+two-sides d l x y h g = let m : max x y ≤ l - d = max-le (omega arith) (omega arith) in omega arith
+
+module _ (a b c : ℕ) (f : ℕ → Formula) (d l : ℕ) (low : d ≤ l) where
+  levels-build : (k : ℕ) → (1 ≤ k → k ≤ 4 → d + levels (f a) ≤ l) → (2 ≤ k → k ≤ 4 → d + levels (f b) ≤ l)
+      → (5 ≤ k → k ≤ 6 → d + 1 + levels (f a) ≤ l)
+      → d + levels (build (record { kind = k; a = a; b = b; c = c }) f) ≤ l
+  unfolding levels
+  levels-build zero left right body = omega arith
+  levels-build (suc zero) left right body = left (omega arith) (omega arith)
+  levels-build (suc (suc zero)) left right body = two-sides d l _ _ (left (omega arith) (omega arith)) (right (omega arith) (omega arith))
+  levels-build (suc (suc (suc zero))) left right body = two-sides d l _ _ (left (omega arith) (omega arith)) (right (omega arith) (omega arith))
+  levels-build (suc (suc (suc (suc zero)))) left right body = two-sides d l _ _ (left (omega arith) (omega arith)) (right (omega arith) (omega arith))
+  levels-build (suc (suc (suc (suc (suc zero))))) left right body = omega (arith, body (omega arith) (omega arith))
+  levels-build (suc (suc (suc (suc (suc (suc zero)))))) left right body = omega (arith, body (omega arith) (omega arith))
+  levels-build (suc (suc (suc (suc (suc (suc (suc zero))))))) left right body = omega arith
+  levels-build (suc (suc (suc (suc (suc (suc (suc (suc zero)))))))) left right body = omega arith
+  levels-build (suc (suc (suc (suc (suc (suc (suc (suc (suc zero))))))))) left right body = omega arith
+  levels-build (suc (suc (suc (suc (suc (suc (suc (suc (suc (suc k)))))))))) left right body = omega arith
+
+module _ (r : List ℕ) (ok : acceptedRule r ≡ true) where
+  -- the limit holds at an entry, and within it
+  Within : ℕ → Type 0
+  Within i = around r i ≤ nestingLimit → around r i + levels (formulaAt r i) ≤ nestingLimit
+
+  module _ (i : ℕ) (h : i < entryCount r) (later : (j : ℕ) → i < j → j < entryCount r → Within j) where
+    abbrev x : Entry
+    x = entryAt r i
+
+    entry-within : Within i
+    unfolding Within
+    entry-within low =
+        rw (formula-at r ok i h)
+        (levels-build (x .a) (x .b) (x .c) (formulaAt r) (around r i) nestingLimit low (x .kind) left right body)
+      where
+        left : 1 ≤ x .kind → x .kind ≤ 4 → around r i + levels (formulaAt r (x .a)) ≤ nestingLimit
+        left s t =
+            let l = entries.child-later r ok i h (omega arith) in
+            let same = entries.child-depth r ok i h t in
+            omega (arith, later (x .a) (l .0) (l .1) (omega (arith, same)), same)
+
+        right : 2 ≤ x .kind → x .kind ≤ 4 → around r i + levels (formulaAt r (x .b)) ≤ nestingLimit
+        right s t =
+            let l = entries.right-later r ok i h s t in
+            let same = entries.right-depth r ok i h s t in
+            omega (arith, later (x .b) (l .0) (l .1) (omega (arith, same)), same)
+
+        body : 5 ≤ x .kind → x .kind ≤ 6 → around r i + 1 + levels (formulaAt r (x .a)) ≤ nestingLimit
+        body s t =
+            let l = entries.child-later r ok i h t in
+            let more = entries.body-depth r ok i h s t in
+            omega (arith, later (x .a) (l .0) (l .1) (omega (arith, more, entries.nesting r ok i h s t)), more)
+
+  -- an entry with fewer than m behind it
+  within : (m i : ℕ) → i < entryCount r → entryCount r ≤ i + m → Within i
+  within zero i h f = absurd (omega arith)
+  within (suc m) i h f = entry-within i h (λ j l k. within m j k (omega arith))
+
+  rule-within : levels (formula r) ≤ nestingLimit
+  unfolding aroundFrom Within
+  rule-within = omega (arith, within (entryCount r) 0 (entries.some-entry r ok) (omega arith) (omega arith))
+
+-- ---- of the quantifiers around an entry the innermost has one less around it
+Inside : List ℕ → ℕ → ℕ → Type 0
+Inside r i m = (k : ℕ) × (k < i) × (isQuantifier (entryAt r k) ≡ true) × (around r k ≡ m)
+
+module _ (r : List ℕ) (i m : ℕ) where
+  wider : Inside r i m → Inside r (suc i) m
+  unfolding Inside
+  wider w = (w .0, omega (arith, w .1), w .2, w .3)
+
+  parent : one (isQuantifier (entryAt r i)) + around r i ≡ suc m → (around r i ≡ suc m → Inside r i m) → Inside r (suc i) m
+  unfolding Inside
+  parent e f = either (isQuantifier (entryAt r i))
+      (λ q. (i, omega arith, q, omega (arith, rw q at e)))
+      (λ q. wider (f (omega (arith, rw q at e))))
+
+innermost : (r : List ℕ) (i j m : ℕ) → aroundFrom r i j ≡ suc m → Inside r i m
+unfolding aroundFrom
+innermost r zero j m e = absurd (omega arith)
+innermost r (suc i) j m e = either (isChild (entryAt r i) j)
+    (λ c. parent r i m (rw c at e) (innermost r i i m))
+    (λ c. wider r i m (innermost r i j m (rw c at e)))
+
+-- ---- refused with 6
+module _ (r : List ℕ) (p : ℕ) (refused : checkRule r ≡ Refused 6 p) where
+  at-first : FirstAtFault (entryFault r) 6 p
+  at-first = refused-rule r 6 p (omega arith) refused
+
+  too-deep : (isQuantifier (entryAt r p) && leb nestingLimit (around r p)) ≡ true
+  unfolding entryFault
+  too-deep = at-first .at-fault
+
+  at-quantifier : isQuantifier (entryAt r p) ≡ true
+  at-quantifier = and-left _ _ too-deep
+
+  none-earlier : (i : ℕ) → i < p → isQuantifier (entryAt r i) ≡ true → nestingLimit ≤ around r i → ⊥
+  unfolding entryFault
+  none-earlier i h q l = true≢false (sym (and-both _ _ q (le-leb nestingLimit (around r i) l)) ∙ at-first .none-earlier i h)
+
+  as-many-around : around r p ≡ nestingLimit
+  unfolding Inside
+  as-many-around = either (ltb nestingLimit (around r p))
+      (λ s. let more = ltb-true nestingLimit (around r p) s in
+      let w = innermost r p p (around r p - 1) (omega arith) in
+      absurd (none-earlier (w .0) (w .1) (w .2) (omega (arith, w .3))))
+      (λ s. omega (arith, ltb-false nestingLimit (around r p) s, leb-true nestingLimit (around r p) (and-right (isQuantifier (entryAt r p)) _ too-deep)))
+
+pub limited : LevelsLimited
+limited r = record { accepted = rule-within r; quantifier = at-quantifier r; one-more = as-many-around r }

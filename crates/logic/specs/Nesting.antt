@@ -1,0 +1,27 @@
+-- 02, wish 7: quantifiers around one another. Assumes nothing.
+use Prim.Native.Nat.{ℕ, suc, _≤_, max}
+use mathlib.Core.Path.{_≡_}
+use mathlib.Core.Bool.{true}
+use mathlib.Core.List.{List}
+use Rattle.tables.specs.Words.{entryAt}
+use Rattle.tables.specs.Rules.{nestingLimit, isQuantifier, around, checkRule, acceptedRule}
+use Rattle.tables.specs.declared.Answer.the-variants.{Refused}
+use Rattle.logic.specs.Formulas.{Formula, negation, joined, quantified, compared, formula}
+
+-- how many quantifiers of a formula stand around one another at most
+unfoldable pub levels : Formula → ℕ
+levels (negation φ) = levels φ
+levels (joined c φ ψ) = max (levels φ) (levels ψ)
+levels (quantified q o n φ) = suc (levels φ)
+levels (compared c v w) = 0
+
+pub record Limited (rule : List ℕ) : Type 0 where
+  -- in an accepted rule no more stand around one another than the limit
+  pub accepted : acceptedRule rule ≡ true → levels (formula rule) ≤ nestingLimit
+  -- 6 is given at a quantifier, and the number of those around it is the limit: it is the first too many
+  pub quantifier : (p : ℕ) → checkRule rule ≡ Refused 6 p → isQuantifier (entryAt rule p) ≡ true
+  pub one-more : (p : ℕ) → checkRule rule ≡ Refused 6 p → around rule p ≡ nestingLimit
+
+-- the claim: so it is for every run of words
+abbrev pub LevelsLimited : Type 0
+LevelsLimited = (rule : List ℕ) → Limited rule
