@@ -1,5 +1,7 @@
 /* Gabzeril: a checker of Configuration Logic rules over a pool of switches.
  *
+ * This header is the reference of the calls. docs/MANUAL.md has rows, rules, files and refusals.
+ *
  * Rules and tables are runs of 32-bit words that the caller lends: a rule has four words an entry
  * (kind a b c), a table five words a row (device at up name value). Lengths are in words for rules and
  * tables, in bytes for files and marks. NULL with length 0 is an empty run. The library keeps no
@@ -8,6 +10,8 @@
  *
  * A refused call changes no byte of any buffer. An accepted call writes its answer at the start of its
  * output and leaves what lies past it.
+ *
+ * docs/BENCHMARKS.md has the measured stack of each call; every call runs in a thread of 128 KiB.
  */
 #ifndef GABZERIL_H
 #define GABZERIL_H
@@ -19,9 +23,112 @@
 extern "C" {
 #endif
 
+/* The Makefile reads the version from this line. */
+#define GABZERIL_VERSION "0.1.0"
+
+/* Limits. */
+
+#define GABZERIL_ENTRY_WORDS 4   /* of an entry */
+#define GABZERIL_ROW_WORDS 5     /* of a row */
+#define GABZERIL_ENTRY_LIMIT 128 /* a rule has 1 to so many entries */
+#define GABZERIL_ROW_LIMIT 1024  /* a table has 0 to so many rows */
+#define GABZERIL_NESTING_LIMIT 6 /* so many quantifiers stand around one another at most */
+
+#define GABZERIL_NAME_LIMIT 65535       /* device, at and name are 1 to this; so are names in quantifiers */
+#define GABZERIL_VALUE_LIMIT 2147483647 /* values and constants are 0 to this */
+
+/* Buffers that are never too short. A part has at most the words of the device's table, marks have a byte
+ * for each row of the pool. */
+
+#define GABZERIL_RULE_WORDS (GABZERIL_ENTRY_LIMIT * GABZERIL_ENTRY_WORDS) /* any rule */
+#define GABZERIL_TABLE_WORDS (GABZERIL_ROW_LIMIT * GABZERIL_ROW_WORDS)    /* any table, joined ones too */
+#define GABZERIL_RULE_FILE_BYTES 2187     /* the file of any rule: its first line, and 17 bytes an entry */
+#define GABZERIL_POOL_FILE_BYTES 35864    /* the file of any table: its first line, and 35 bytes a row */
+#define GABZERIL_PROGRAM_FILE_BYTES 65536 /* the longest file that gabzeril_report and the program take */
+#define GABZERIL_REPORT_BYTES 64          /* any text of gabzeril_report */
+
+/* The columns of a row and of an entry. */
+enum gabzeril_row_column { GABZERIL_DEVICE, GABZERIL_AT, GABZERIL_UP, GABZERIL_NAME, GABZERIL_VALUE };
+enum gabzeril_entry_column { GABZERIL_KIND, GABZERIL_A, GABZERIL_B, GABZERIL_C };
+
+/* The kinds of entry. */
+enum gabzeril_kind {
+    GABZERIL_NOT = 1,
+    GABZERIL_AND = 2,
+    GABZERIL_OR = 3,
+    GABZERIL_IMPLIES = 4,
+    GABZERIL_EVERY = 5,
+    GABZERIL_SOME = 6,
+    GABZERIL_EQUAL = 7,
+    GABZERIL_LESS = 8,
+    GABZERIL_AT_MOST = 9
+};
+
+/* b of a quantifier: over roots, or over the rows whose parent is the row of that variable. */
+#define GABZERIL_ROOTS 0
+#define GABZERIL_UNDER(variable) (1 + (variable))
+
+/* b of a comparison: what c is. */
+#define GABZERIL_VARIABLE 0
+#define GABZERIL_CONSTANT 1
+
+/* What a device sends. */
+enum gabzeril_mode { GABZERIL_ALL = 1, GABZERIL_BRANCH = 2, GABZERIL_FULL = 3 };
+
+/* The numbers of the refusals. 15 is not used. */
+enum gabzeril_refusal {
+    GABZERIL_ACCEPTED = 0,
+    GABZERIL_REFUSED_RULE_LENGTH = 1,
+    GABZERIL_REFUSED_KIND = 2,
+    GABZERIL_REFUSED_WORD = 3,
+    GABZERIL_REFUSED_CHILD = 4,
+    GABZERIL_REFUSED_NAMING = 5,
+    GABZERIL_REFUSED_NESTING = 6,
+    GABZERIL_REFUSED_VARIABLE = 7,
+    GABZERIL_REFUSED_TABLE_LENGTH = 8,
+    GABZERIL_REFUSED_RANGE = 9,
+    GABZERIL_REFUSED_ORDER = 10,
+    GABZERIL_REFUSED_PARENT = 11,
+    GABZERIL_REFUSED_SIBLING = 12,
+    GABZERIL_REFUSED_MODE = 13,
+    GABZERIL_REFUSED_DEVICE = 14,
+    GABZERIL_REFUSED_JOIN = 16,
+    GABZERIL_REFUSED_SHORT_OUTPUT = 17,
+    GABZERIL_REFUSED_FIRST_LINE = 18,
+    GABZERIL_REFUSED_LINE = 19
+};
+
+/* A refusal in words, for a message or a log. It belongs to this header and not to the library. */
+static inline const char *gabzeril_refusal_text(uint32_t number)
+{
+    static const char *const texts[] = {
+        /* 0 */ "accepted",
+        /* 1 */ "the rule is empty, too long or not whole entries",
+        /* 2 */ "unknown kind",
+        /* 3 */ "a word that must be 0 is not, b of a comparison is above 1, or a name or constant is out of range",
+        /* 4 */ "a child is not a later entry of the rule",
+        /* 5 */ "an entry other than 0 is not the child of exactly one place",
+        /* 6 */ "too many quantifiers around one another",
+        /* 7 */ "a variable that is not bound there",
+        /* 8 */ "the table is too long or not whole rows",
+        /* 9 */ "device, at, name or value out of range",
+        /* 10 */ "the row is not above the row before it",
+        /* 11 */ "no earlier row of the device is the parent",
+        /* 12 */ "an earlier sibling has the same name and value",
+        /* 13 */ "unknown mode",
+        /* 14 */ "a row of another device",
+        /* 15 */ "not used",
+        /* 16 */ "the second table's first device is not above the first table's last",
+        /* 17 */ "the output is shorter than the answer",
+        /* 18 */ "the file's first line is wrong or not ended",
+        /* 19 */ "a line of the file is not ended or not the right numbers",
+    };
+    return number < sizeof texts / sizeof texts[0] ? texts[number] : "unknown number";
+}
+
 /* What a call answers. */
 typedef struct gabzeril_answer {
-    uint32_t number; /* 0: accepted; else the number of the refusal: 1 to 14 or 16 to 19 */
+    uint32_t number; /* 0: accepted; else the number of the refusal */
     size_t place;    /* where the fault is: entries and rows from 0, lines from 1; 0 for the rest */
     size_t value;    /* what an accepted call answers; 0 in a refusal */
 } gabzeril_answer;
@@ -41,7 +148,12 @@ gabzeril_answer gabzeril_check_table(const uint32_t *table, size_t table_length)
 /* Puts the table `second` behind the table that the first `used` words of `pool` hold. Refusals: 8 to 12
  * of the first table, 8 to 12 of the second, 16, 8 and 12 of the joined one, 17 if `pool` is too short;
  * `used` beyond `pool_length` is 8 at place 0. Value: the words of the joined table, `used` of the next
- * call. */
+ * call.
+ *
+ * The place is a row of the table at fault: of the first, of the second, or of the joined one, which counts
+ * from the first table's first row. Where the first table is accepted, as after a joining, 9, 10 and 11 are
+ * the second's, and gabzeril_check_table on `second` alone tells whether 8 and 12 are its own too. 12 of the
+ * joined table is at a root of the second. */
 gabzeril_answer gabzeril_join(uint32_t *pool, size_t pool_length, size_t used,
                               const uint32_t *second, size_t second_length);
 
@@ -50,7 +162,8 @@ gabzeril_answer gabzeril_join(uint32_t *pool, size_t pool_length, size_t used,
 gabzeril_span gabzeril_device_rows(const uint32_t *table, size_t table_length, uint32_t device);
 
 /* Reading a file gives words only; every other call checks its tables. Refusals 18, 19, 17. Value: the
- * number of words. */
+ * number of words. With a buffer of GABZERIL_RULE_WORDS or GABZERIL_TABLE_WORDS, 17 is a file with more lines
+ * than a rule or a table may have. */
 gabzeril_answer gabzeril_read_rule(const uint8_t *file, size_t file_length,
                                    uint32_t *rule, size_t rule_length);
 gabzeril_answer gabzeril_read_pool(const uint8_t *file, size_t file_length,
@@ -72,7 +185,7 @@ gabzeril_answer gabzeril_marks(const uint32_t *rule, size_t rule_length,
                                uint8_t *marks, size_t marks_length);
 
 /* The rows that one device sends: all (mode 1), its branch part (2), its full part (3). Refusals 1 to 12,
- * 13, 14, 17. Value: the number of rows sent. */
+ * 13, 14, 17. Value: the number of rows sent; the part has GABZERIL_ROW_WORDS times as many words. */
 gabzeril_answer gabzeril_part(const uint32_t *rule, size_t rule_length,
                               const uint32_t *table, size_t table_length, uint32_t mode,
                               uint32_t *part, size_t part_length);
@@ -83,9 +196,9 @@ gabzeril_answer gabzeril_part(const uint32_t *rule, size_t rule_length,
 uint32_t gabzeril_check_files(const uint8_t *rule_file, size_t rule_file_length,
                               const uint8_t *pool_file, size_t pool_file_length);
 
-/* The text that the program prints for a rule file and a pool file. A file over 65,536 bytes is 1 or 8,
- * place 0, before its 18. The number of bytes written is returned: at most 64, 0 if `text_length` is
- * shorter than the text; nothing is written then. */
+/* The text that the program prints for a rule file and a pool file. A file over GABZERIL_PROGRAM_FILE_BYTES is
+ * 1 or 8, place 0, before its 18. The number of bytes written is returned: at most GABZERIL_REPORT_BYTES, 0 if
+ * `text_length` is shorter than the text; nothing is written then. */
 size_t gabzeril_report(const uint8_t *rule_file, size_t rule_file_length,
                        const uint8_t *pool_file, size_t pool_file_length,
                        uint8_t *text, size_t text_length);
