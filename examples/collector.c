@@ -9,24 +9,24 @@
 
 #include <stdio.h>
 
-static uint32_t rule[RULE_WORDS];
-static uint32_t pool[TABLE_WORDS];
-static uint32_t part[TABLE_WORDS];
-static uint8_t marks[TABLE_ROWS];
+static uint32_t rule[GABZERIL_RULE_WORDS];
+static uint32_t pool[GABZERIL_TABLE_WORDS];
+static uint32_t part[GABZERIL_TABLE_WORDS];
+static uint8_t marks[GABZERIL_ROW_LIMIT];
 
 /* The words of the pool with this part behind its first `used`. */
 static size_t add_part(size_t used, const char *path)
 {
     size_t length = load_pool(path, part);
-    return accepted(gabzeril_join(pool, TABLE_WORDS, used, part, length), path);
+    return accepted(gabzeril_join(pool, GABZERIL_TABLE_WORDS, used, part, length), path);
 }
 
 static void print_marked(size_t rows)
 {
     for (size_t row = 0; row < rows; row++) {
         if (marks[row] == 1) {
-            const uint32_t *words = pool + 5 * row;
-            printf("marked %u/%u\n", (unsigned)words[0], (unsigned)words[1]);
+            const uint32_t *words = pool + GABZERIL_ROW_WORDS * row;
+            printf("marked %u/%u\n", (unsigned)words[GABZERIL_DEVICE], (unsigned)words[GABZERIL_AT]);
         }
     }
 }
@@ -44,8 +44,9 @@ int main(int argc, char **argv)
     }
     gabzeril_answer answer = gabzeril_marks(rule, rule_length, pool, used, marks, sizeof marks);
     size_t verdict = accepted(answer, "rule or pool");
-    printf("rows %zu\n", used / 5);
+    size_t rows = used / GABZERIL_ROW_WORDS;
+    printf("rows %zu\n", rows);
     printf("verdict %s\n", verdict == 1 ? "true" : "false");
-    print_marked(used / 5);
+    print_marked(rows);
     return 0;
 }

@@ -22,23 +22,24 @@ static size_t load_file(const char *path)
     return length;
 }
 
-size_t load_rule(const char *path, uint32_t rule[RULE_WORDS])
+size_t load_rule(const char *path, uint32_t rule[GABZERIL_RULE_WORDS])
 {
     size_t length = load_file(path);
-    return accepted(gabzeril_read_rule(file, length, rule, RULE_WORDS), path);
+    return accepted(gabzeril_read_rule(file, length, rule, GABZERIL_RULE_WORDS), path);
 }
 
-size_t load_pool(const char *path, uint32_t table[TABLE_WORDS])
+size_t load_pool(const char *path, uint32_t table[GABZERIL_TABLE_WORDS])
 {
     size_t length = load_file(path);
-    return accepted(gabzeril_read_pool(file, length, table, TABLE_WORDS), path);
+    return accepted(gabzeril_read_pool(file, length, table, GABZERIL_TABLE_WORDS), path);
 }
 
 size_t accepted(gabzeril_answer answer, const char *subject)
 {
-    if (answer.number != 0) {
+    if (answer.number != GABZERIL_ACCEPTED) {
+        const char *text = gabzeril_refusal_text(answer.number);
         unsigned number = answer.number;
-        fprintf(stderr, "%s: refused, number %u, place %zu\n", subject, number, answer.place);
+        fprintf(stderr, "%s: refused, number %u, place %zu: %s\n", subject, number, answer.place, text);
         exit(1);
     }
     return answer.value;

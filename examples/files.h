@@ -4,16 +4,12 @@
 
 #include "gabzeril.h"
 
-enum {
-    RULE_WORDS = 128 * 4,  /* the longest rule */
-    TABLE_ROWS = 1024,
-    TABLE_WORDS = TABLE_ROWS * 5,
-    FILE_BYTES = 65536     /* more than the longest file of an accepted rule or table */
-};
+/* The longest file of an accepted rule or table. */
+enum { FILE_BYTES = GABZERIL_POOL_FILE_BYTES };
 
 /* The words of a rule file and of a pool file. Each ends the program if the file cannot be read. */
-size_t load_rule(const char *path, uint32_t rule[RULE_WORDS]);
-size_t load_pool(const char *path, uint32_t table[TABLE_WORDS]);
+size_t load_rule(const char *path, uint32_t rule[GABZERIL_RULE_WORDS]);
+size_t load_pool(const char *path, uint32_t table[GABZERIL_TABLE_WORDS]);
 
 /* The value of an accepted answer. A refused one is printed and ends the program; `subject` is what was
  * refused. */

@@ -10,9 +10,9 @@
 #include <stdio.h>
 #include <stdlib.h>
 
-static uint32_t rule[RULE_WORDS];
-static uint32_t table[TABLE_WORDS];
-static uint32_t part[TABLE_WORDS];
+static uint32_t rule[GABZERIL_RULE_WORDS];
+static uint32_t table[GABZERIL_TABLE_WORDS];
+static uint32_t part[GABZERIL_TABLE_WORDS];
 static uint8_t text[FILE_BYTES];
 
 /* 0, which the library refuses, if the argument is not one digit. */
@@ -41,8 +41,8 @@ int main(int argc, char **argv)
     size_t rule_length = load_rule(argv[1], rule);
     size_t table_length = load_pool(argv[2], table);
     gabzeril_answer made =
-        gabzeril_part(rule, rule_length, table, table_length, mode_of(argv[3]), part, TABLE_WORDS);
-    size_t rows = accepted(made, "part");
-    size_t length = accepted(gabzeril_write_pool(part, 5 * rows, text, sizeof text), "part");
+        gabzeril_part(rule, rule_length, table, table_length, mode_of(argv[3]), part, GABZERIL_TABLE_WORDS);
+    size_t part_length = GABZERIL_ROW_WORDS * accepted(made, "part");
+    size_t length = accepted(gabzeril_write_pool(part, part_length, text, sizeof text), "part");
     return write_text(length, argc == 5 ? argv[4] : NULL);
 }

@@ -28,11 +28,11 @@
 #endif
 
 enum {
-    RULE_WORDS = 128 * 4,
-    POOL_WORDS = 1024 * 5,
-    PROGRAM_BYTES = 65536, /* the program's limit of a file */
-    FILE_BYTES = 100000,   /* the longest file made here */
-    TEXT_BYTES = 64,       /* the longest text of gabzeril_report */
+    RULE_WORDS = GABZERIL_RULE_WORDS,
+    POOL_WORDS = GABZERIL_TABLE_WORDS,
+    PROGRAM_BYTES = GABZERIL_PROGRAM_FILE_BYTES,
+    FILE_BYTES = 100000, /* the longest file made here */
+    TEXT_BYTES = GABZERIL_REPORT_BYTES,
     MOST_NESTED = 6,       /* the quantifiers that may stand around one another */
     FILLED = 0xa5
 };
@@ -168,7 +168,7 @@ static void set_comparison(struct rule *rule, uint32_t at, uint32_t bound)
 {
     uint32_t constant = below(2);
     uint32_t variables = bound == 0 || chance(2) ? bound + 1 : bound;
-    set_entry(rule, at, 7 + below(3), below(variables), constant, below(constant ? 5 : variables));
+    set_entry(rule, at, GABZERIL_EQUAL + below(3), below(variables), constant, below(constant ? 5 : variables));
 }
 
 /* Adds a formula that stands under `bound` quantifiers. Connectives nest at most `depth` deep. */
@@ -178,13 +178,13 @@ static void add_formula(struct rule *rule, uint32_t depth, uint32_t bound)
     uint32_t choice = depth == 0 ? 9 : below(10), deeper = depth == 0 ? 0 : depth - 1;
     if ((choice < 4 || bound == 0) && rule->quantifiers < 4) {
         rule->quantifiers++;
-        set_entry(rule, at, 5 + below(2), at + 1, below(bound + 1), 1 + below(3));
+        set_entry(rule, at, GABZERIL_EVERY + below(2), at + 1, below(bound + 1), 1 + below(3));
         add_formula(rule, deeper, bound + 1);
     } else if (choice == 4) {
-        set_entry(rule, at, 1, at + 1, 0, 0);
+        set_entry(rule, at, GABZERIL_NOT, at + 1, 0, 0);
         add_formula(rule, deeper, bound);
     } else if (choice < 8 && depth > 0) {
-        uint32_t kind = 2 + below(3);
+        uint32_t kind = GABZERIL_AND + below(3);
         add_formula(rule, deeper, bound);
         set_entry(rule, at, kind, at + 1, rule->entries, 0);
         add_formula(rule, deeper, bound);
@@ -401,7 +401,8 @@ static void damage_files(void)
 /* Checks a file's words; gives 100 plus the refusal, or 0. Too many lines are refusal `length_number`. */
 static uint32_t refusal(gabzeril_answer read, gabzeril_answer check, uint32_t length_number)
 {
-    uint32_t number = read.number == 17 ? length_number : read.number != 0 ? read.number : check.number;
+    int too_long = read.number == GABZERIL_REFUSED_SHORT_OUTPUT;
+    uint32_t number = too_long ? length_number : read.number != 0 ? read.number : check.number;
     return number == 0 ? 0 : 100 + number;
 }
 
@@ -415,12 +416,12 @@ static uint32_t separate_calls(const void *rule_bytes, const void *pool_bytes, s
     }
     gabzeril_answer read = gabzeril_read_rule(rule_bytes, rule_file.length, rule, RULE_WORDS);
     size_t rule_length = read.value;
-    uint32_t refused = refusal(read, gabzeril_check_rule(rule, rule_length), 1);
+    uint32_t refused = refusal(read, gabzeril_check_rule(rule, rule_length), GABZERIL_REFUSED_RULE_LENGTH);
     if (refused != 0 || pool_file.length > most_bytes) {
         return refused != 0 ? refused : 108;
     }
     read = gabzeril_read_pool(pool_bytes, pool_file.length, pool, POOL_WORDS);
-    refused = refusal(read, gabzeril_check_table(pool, read.value), 8);
+    refused = refusal(read, gabzeril_check_table(pool, read.value), GABZERIL_REFUSED_TABLE_LENGTH);
     if (refused != 0) {
         return refused;
     }
