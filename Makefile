@@ -1,16 +1,19 @@
-# The library for C programs, its installation and the programs that use it.
+# The library for C programs, the program, their installation and what uses them.
 #
 #   make                      prove the library and copy its archive to build/libgabzeril.a
 #   make demo                 prove and build the program, and run it on samples/case-f
-#   make install PREFIX=DIR   header, archive and pkg-config file
+#   make help                 this list
+#   make install PREFIX=DIR   program, header, archive and pkg-config file
+#   make uninstall PREFIX=DIR remove them
 #   make examples             build examples/ against the archive
 #   make check-examples       the same with sanitizers, run and compared
 #   make check-samples        the program on samples/
 #   make check-hostile        damaged files through the C entry (CASES=100000 SEED=1)
 #   make clean                remove build/; target/ belongs to rt
 
-VERSION = 0.1.0
+VERSION := $(shell sed -n 's/^.define GABZERIL_VERSION "\(.*\)"$$/\1/p' include/gabzeril.h)
 PREFIX = /usr/local
+BINDIR = $(PREFIX)/bin
 INCLUDEDIR = $(PREFIX)/include
 LIBDIR = $(PREFIX)/lib
 DESTDIR =
@@ -24,45 +27,60 @@ SANITIZERS = -g -O1 -fsanitize=address,undefined -fno-sanitize-recover=all
 CASES = 100000
 SEED = 1
 
-# Where rt writes the archive. Another archive can be named: it is then taken as it is.
+# Where rt writes archive and program. Others can be named: they are then taken as they are.
 ARCHIVE = target/staticlib/libentry.a
+PROGRAM = target/bin/gabzeril
 PROVED := crates.txt $(shell find crates \( -name '*.rt' -o -name '*.antt' \))
 
 LIBRARY = build/libgabzeril.a
 EXAMPLES = switch collector
 
-.PHONY: all demo install examples sanitized-examples check-examples check-samples check-hostile clean
+.PHONY: all demo help install uninstall examples sanitized-examples check-examples check-samples check-hostile clean
+
+# One rt at a time: it runs crates side by side by itself. What it leaves where it fails is not taken.
+.NOTPARALLEL:
+.DELETE_ON_ERROR:
 
 all: $(LIBRARY)
 
-target/bin/gabzeril: $(PROVED)
-	rt check gabzeril
+help:
+	@sed -n 's/^#   make/make/p' Makefile
 
-demo: target/bin/gabzeril
-	cd samples/case-f && ../../target/bin/gabzeril
+target/bin/gabzeril: $(PROVED) | build
+	@.ci/prove build/program.log rt check gabzeril
+	@touch -c $@
 
-target/staticlib/libentry.a: $(PROVED)
-	rt staticlib entry
+demo: $(PROGRAM)
+	@cd samples/case-f && $(abspath $(PROGRAM))
+
+target/staticlib/libentry.a: $(PROVED) | build
+	@.ci/prove build/library.log rt staticlib entry
+	@touch -c $@
 
 $(LIBRARY): $(ARCHIVE) | build
 	cp $(ARCHIVE) $@
 
 # Nothing of build/ is to be committed.
 build:
-	mkdir -p build/examples build/sanitized
-	echo '*' > build/.gitignore
+	@mkdir -p build/examples build/sanitized
+	@echo '*' > build/.gitignore
 
-build/gabzeril.pc: gabzeril.pc.in Makefile | build
+build/gabzeril.pc: gabzeril.pc.in include/gabzeril.h Makefile | build
 	sed -e 's|@PREFIX@|$(PREFIX)|' -e 's|@INCLUDEDIR@|$(INCLUDEDIR)|' -e 's|@LIBDIR@|$(LIBDIR)|' \
 	    -e 's|@VERSION@|$(VERSION)|' gabzeril.pc.in > $@
 
-install: $(LIBRARY)
+install: $(PROGRAM) $(LIBRARY)
 	rm -f build/gabzeril.pc
 	$(MAKE) --no-print-directory build/gabzeril.pc
-	$(INSTALL) -d $(DESTDIR)$(INCLUDEDIR) $(DESTDIR)$(LIBDIR)/pkgconfig
+	$(INSTALL) -d $(DESTDIR)$(BINDIR) $(DESTDIR)$(INCLUDEDIR) $(DESTDIR)$(LIBDIR)/pkgconfig
+	$(INSTALL) -m 755 $(PROGRAM) $(DESTDIR)$(BINDIR)/gabzeril
 	$(INSTALL) -m 644 include/gabzeril.h $(DESTDIR)$(INCLUDEDIR)/gabzeril.h
 	$(INSTALL) -m 644 $(LIBRARY) $(DESTDIR)$(LIBDIR)/libgabzeril.a
 	$(INSTALL) -m 644 build/gabzeril.pc $(DESTDIR)$(LIBDIR)/pkgconfig/gabzeril.pc
+
+uninstall:
+	rm -f $(DESTDIR)$(BINDIR)/gabzeril $(DESTDIR)$(INCLUDEDIR)/gabzeril.h $(DESTDIR)$(LIBDIR)/libgabzeril.a \
+	    $(DESTDIR)$(LIBDIR)/pkgconfig/gabzeril.pc
 
 examples: $(EXAMPLES:%=build/examples/%)
 
@@ -81,7 +99,7 @@ check-examples: sanitized-examples
 	examples/run.sh build/sanitized
 
 check-samples:
-	samples/run.sh
+	samples/run.sh $(PROGRAM)
 
 check-hostile: build/sanitized/hostile
 	tests-c/hostile.sh $(CASES) $(SEED)
