@@ -25,10 +25,10 @@ use Rattle.engine.specs.Places.{bindAt, bindingsOf}
 use Rattle.engine.specs.Ready.{connectiveOf, quantifierOf, meant, rangesAt, Ready, verdictAt, ReadyRows, rangedFrom, bodyAt, verdictFrom}
 use Rattle.engine.specs.Marked.{Under, markIn, markAt, markCompared, reasonAt, sideFor, withBody, reasonFrom, decidesAt}
 use Rattle.engine.specs.declared.bindings.Bindings.{Bindings}
-use Rattle.engine.proofs.Bound.{depth-bind, meant-bind, place-row}
 use Rattle.engine.proofs.Opened.{Opened, opened, not-formula, joined-formula, quantified-formula, compared-formula}
 use Rattle.engine.proofs.Marking.{mark-append, mark-none, mark-place, mark-first, mark-each, mark-none-selected}
-use Rattle.engine.proofs.Steps.{same-true, same-false, connect-open, entry, two, joined-verdict, quantifier, room, low, quantified-verdict, settled-is, body-verdict, ranged-none, ranged-halves, ranged-one, next-place}
+use Rattle.engine.proofs.Steps.{same-true, same-false, connect-open, entry, two, joined-verdict, quantifier, depth-bound, meant-row}
+use Rattle.engine.proofs.Steps.{quantified-verdict, settled-is, body-verdict, ranged-none, ranged-halves, ranged-one, next-place}
 
 -- ---- a place
 pub mark-one : (p : ℕ) (m : List ℕ) → 0 < p → set m (p - 1) 1 ≡ markAt p m
@@ -253,12 +253,12 @@ module _ (rule pool : List ℕ) (b : Bindings) (e i k : ℕ) (ready : ReadyRows 
   abbrev q : Quantifier
   q = quantifierOf (entryAt rule e .kind)
 
-  body-reason : (j : ℕ) → j + 1 ≤ rowCount pool → (b′ : Bindings) → b′ ≡ bindAt b (j + 1) → rowAt pool j ∷ reasonAt rule pool b′ (x .a) ≡ withBody rule pool b e (rowAt pool j)
+  body-reason : (j : ℕ) → j + 1 ≤ rowCount pool → (b′ : Bindings) → b′ ≡ bindAt b (j + 1)
+      → rowAt pool j ∷ reasonAt rule pool b′ (x .a) ≡ withBody rule pool b e (rowAt pool j)
   body-reason j h b′ b-is =
       rw (b-is, x-is)
       (ap₂ (λ (d : ℕ) (β : meaning.Bindings). rowAt pool j ∷ reason (formulaAt rule (entryAt rule e .a)) (rows pool) d β)
-      (depth-bind pool b (ready .ready .placed) (room rule pool b e i k ready) (j + 1) (low rule pool b e i k ready (j + 1) h))
-      (meant-bind pool b (ready .ready .placed) (room rule pool b e i k ready) (j + 1) (low rule pool b e i k ready (j + 1) h) ∙ ap (λ (p : meaning.Place). meaning.bind (b .depth) p (meant pool b)) (place-row pool j)))
+      (depth-bound rule pool b e i k ready (j + 1) h) (meant-row rule pool b e i k ready j h))
 
   -- marking a row and then its body's reason
   row-marked : (j : ℕ) → j < rowCount pool → (b′ : Bindings) → b′ ≡ bindAt b (j + 1) → (m : List ℕ)
@@ -268,7 +268,8 @@ module _ (rule pool : List ℕ) (b : Bindings) (e i k : ℕ) (ready : ReadyRows 
       ∙ ap (λ (R : List Row). markIn pool R m) (body-reason j (omega arith) b′ b-is ∙ sym (append-nil (withBody rule pool b e (rowAt pool j))))
 
   -- a row decides
-  pub decides-row : i + 1 ≤ rowCount pool → (z : Bool) → z ≡ rangesAt pool b x (rowAt pool i) → z ≡ true → (b′ : Bindings) → b′ ≡ bindAt b (i + 1) → (v : Bool) → v ≡ verdictAt rule pool b′ (x .a)
+  pub decides-row : i + 1 ≤ rowCount pool → (z : Bool) → z ≡ rangesAt pool b x (rowAt pool i) → z ≡ true
+      → (b′ : Bindings) → b′ ≡ bindAt b (i + 1) → (v : Bool) → v ≡ verdictAt rule pool b′ (x .a)
       → not (Bool·beq v (eqb (x .kind) 5)) ≡ decidesAt rule pool b e i
   decides-row inside z z-is h b′ b-is v v-is =
       unsettled (x .kind) v
@@ -393,7 +394,8 @@ module _ (rule pool : List ℕ) (b : Bindings) (e i k : ℕ) (ready : ReadyRows 
       pub one-verdict : eqb (x .kind) 5 ≡ verdictAt rule pool b′ (x .a)
       one-verdict =
           settled-is rule pool b e i k ready x x-is
-          ∙ sym (body-verdict rule pool b e i k ready x x-is r (omega (arith, ready .place)) b′ b-is ∙ sym (fold-one q (bodyAt rule pool b e) (rowAt pool r))
+          ∙ sym (body-verdict rule pool b e i k ready x x-is r (omega (arith, ready .place)) b′ b-is
+          ∙ sym (fold-one q (bodyAt rule pool b e) (rowAt pool r))
           ∙ ap (meaning.fold q (bodyAt rule pool b e)) (sym (ranged-one rule pool b e i k ready x x-is r r-is one)) ∙ none)
 
       pub one-marked : (m m′ : List ℕ) → m′ ≡ markIn pool (reasonAt rule pool b′ (x .a)) (set m r 1) → m′ ≡ markIn pool (reasonFrom rule pool b e i k) m

@@ -4,7 +4,7 @@ use mathlib.Core.Path.{_≡_, refl, sym, ap, ap₂, subst, fun-ext, _∙_}
 use mathlib.Core.Bool.{Bool, true, false, not, cond, _&&_, Bool·beq, true≢false, false≢true}
 use mathlib.Core.List.{List, [], _∷_, _++_}
 use native.Mathlib.Omega.{arith}
-use lib.ListN.{getD, set}
+use lib.ListN.{length, getD, set}
 use lib.Seq.{getD-set-same, getD-set-other}
 use lib.Dec.{eqb}
 use borrow.Author.Tests.{eqb-true, eqb-false, eq-eqb}
@@ -13,8 +13,6 @@ use Rattle.base.specs.Search.{first}
 use Rattle.base.proofs.Bools.{either}
 use Rattle.base.proofs.Lists.{concatMap-append}
 use Rattle.tables.specs.Words.{rowAt, rowCount, rows, entryAt}
-use Rattle.tables.specs.Rules.{nestingLimit}
-use Rattle.tables.specs.Tables.{rowLimit}
 use Rattle.tables.specs.declared.Row.{Row}
 use Rattle.tables.specs.declared.Entry.{Entry}
 use Rattle.logic.specs.Formulas.{Connective, and, or, implies, Quantifier, every, some, overOf, operandOf, formulaAt}
@@ -24,28 +22,30 @@ use Rattle.logic.proofs.Folds.{fold-all}
 use Rattle.logic.proofs.Walks.{both-settled, both-decided, fold-append, fold-one}
 use Rattle.logic.proofs.Reasons.{witnesses-all}
 use Rattle.engine.specs.Places.{bindAt, placeOf, bindingsOf}
-use Rattle.engine.specs.Ready.{connectiveOf, quantifierOf, comparisonOf, Placed, meant, comparedAt, rangesAt, Ready, verdictAt, ReadyRows, rangedFrom}
+use Rattle.engine.specs.Ready.{connectiveOf, quantifierOf, comparisonOf, meant, comparedAt, rangesAt, Ready, verdictAt, ReadyRows, rangedFrom}
 use Rattle.engine.specs.Marked.{sideFor, reasonAt, withReason, withBody, reasonFrom}
 use Rattle.engine.specs.Settling.{Fits, CertainCompared, Certain, KnownParent, Steady, KnownRows, bodyWith, CertainRows, Settles}
 use Rattle.engine.specs.declared.bindings.Bindings.{Bindings}
-use Rattle.engine.proofs.Bound.{row-bind, depth-bind}
 use Rattle.engine.proofs.Opened.{not-formula, joined-formula, quantified-formula, compared-formula}
-use Rattle.engine.proofs.Steps.{same-true, same-false, entry, two, quantifier, room, low, settled-is, part-ready, ranged-none, ranged-halves, ranged-one}
+use Rattle.engine.proofs.Steps.{same-true, same-false, entry, two, quantifier, room, row-bound, depth-bound, settled-is, part-ready}
+use Rattle.engine.proofs.Steps.{ranged-none, ranged-halves, ranged-one}
 
 -- ---- bindings that fit
 pub fits-meant : (pool : List ℕ) (b : Bindings) → Fits pool b (meant pool b)
 unfolding bindingsOf
 fits-meant pool b v i e = ap (placeOf pool) e
 
-fits-bind : (pool : List ℕ) (b : Bindings) → Placed pool b → b .depth < nestingLimit → (p : ℕ) → p ≤ rowLimit → (P : meaning.Place) → ((i : ℕ) → p ≡ suc i → P ≡ meaning.bound (rowAt pool i))
+fits-bind : (pool : List ℕ) (b : Bindings) → b .depth < length (b .row) → (p : ℕ) → bindAt b p .row ≡ set (b .row) (b .depth) p
+    → (P : meaning.Place) → ((i : ℕ) → p ≡ suc i → P ≡ meaning.bound (rowAt pool i))
     → (β : meaning.Bindings) → Fits pool b β → Fits pool (bindAt b p) (meaning.bind (b .depth) P β)
-fits-bind pool b placed less p few P h β f v i e = go (eqb v (b .depth)) refl
+fits-bind pool b inside p row-is P h β f v i e = go (eqb v (b .depth)) refl
   where
     at : getD (set (b .row) (b .depth) p) v 0 ≡ suc i
-    at = ap (λ (l : List ℕ). getD l v 0) (sym (row-bind pool b placed less p few)) ∙ e
+    at = ap (λ (l : List ℕ). getD l v 0) (sym row-is) ∙ e
 
     go : (c : Bool) → eqb v (b .depth) ≡ c → cond (eqb v (b .depth)) P (β v) ≡ meaning.bound (rowAt pool i)
-    go true k = rw k (h i (sym (getD-set-same (b .row) (b .depth) p 0 (omega (arith, placed .sized))) ∙ ap (λ (n : ℕ). getD (set (b .row) (b .depth) p) n 0) (sym (eqb-true v (b .depth) k)) ∙ at))
+    go true k = rw k (h i (sym (getD-set-same (b .row) (b .depth) p 0 inside)
+        ∙ ap (λ (n : ℕ). getD (set (b .row) (b .depth) p) n 0) (sym (eqb-true v (b .depth) k)) ∙ at))
     go false k = rw k (f v i (sym (getD-set-other (b .row) (b .depth) v p 0 (eqb-false v (b .depth) k)) ∙ at))
 
 known-same : (pool : List ℕ) (b : Bindings) (β : meaning.Bindings) → Fits pool b β → (v : ℕ) → (getD (b .row) v 0 ≡ 0 → ⊥) → β v ≡ meant pool b v
@@ -279,15 +279,17 @@ module _ (rule pool : List ℕ) (b : Bindings) (e i k : ℕ) (ready : ReadyRows 
           (known-same pool b β f v (λ q. g (λ s. omega arith) (ap (λ (n : ℕ). getD (b .row) n 0) z ∙ q)))
 
   -- its body, with one more variable bound
-  module _ (p : ℕ) (inside : p ≤ rowCount pool) (b′ : Bindings) (b-is : b′ ≡ bindAt b p) (want same r : Bool) (c : Certain rule pool b′ (x .a) want same r) (h : r ≡ true) where
+  module _ (p : ℕ) (inside : p ≤ rowCount pool) (b′ : Bindings) (b-is : b′ ≡ bindAt b p)
+      (want same r : Bool) (c : Certain rule pool b′ (x .a) want same r) (h : r ≡ true) where
     -- bindings that fit, with a row for the variable
     fits-row : (β : meaning.Bindings) → Fits pool b β → (y : Row) → ((j : ℕ) → p ≡ suc j → meaning.bound y ≡ meaning.bound (rowAt pool j)) → Fits pool b′ (meaning.bind (b .depth) (meaning.bound y) β)
     fits-row β f y g =
         subst (λ (z : Bindings). Fits pool z (meaning.bind (b .depth) (meaning.bound y) β)) (sym b-is)
-        (fits-bind pool b (ready .ready .placed) (room rule pool b e i k ready) p (low rule pool b e i k ready p inside) (meaning.bound y) g β f)
+        (fits-bind pool b (omega (arith, room rule pool b e i k ready, ready .ready .placed .sized)) p
+        (row-bound rule pool b e i k ready p inside) (meaning.bound y) g β f)
 
     depth-is : suc (b .depth) ≡ b′ .depth
-    depth-is = sym (ap (λ (z : Bindings). z .depth) b-is ∙ depth-bind pool b (ready .ready .placed) (room rule pool b e i k ready) p (low rule pool b e i k ready p inside))
+    depth-is = sym (ap (λ (z : Bindings). z .depth) b-is ∙ depth-bound rule pool b e i k ready p inside)
 
     body-certain : (β : meaning.Bindings) → Fits pool b β → (y : Row) → ((j : ℕ) → p ≡ suc j → meaning.bound y ≡ meaning.bound (rowAt pool j)) → bodyWith rule pool b e β y ≡ want
     body-certain β f y g =
@@ -346,7 +348,8 @@ module _ (rule pool : List ℕ) (b : Bindings) (e i k : ℕ) (ready : ReadyRows 
     certain-all h b′ b-is r c = record {
       sure = all-sure want same h b′ b-is r c;
       alike = λ g t β f. steady-alike t β f (all-sure want same h b′ b-is r c g β f) (all-sure want same h b′ b-is r c g (meant pool b) (fits-meant pool b))
-          (ap (λ (F : Row → List Row). concatMap F (rangedFrom rule pool b e 0 (rowCount pool))) (fun-ext (λ y. body-same 0 (omega arith) b′ b-is want same r c g t β f y (λ j z. absurd (omega arith)))));
+          (ap (λ (F : Row → List Row). concatMap F (rangedFrom rule pool b e 0 (rowCount pool)))
+          (fun-ext (λ y. body-same 0 (omega arith) b′ b-is want same r c g t β f y (λ j z. absurd (omega arith)))));
     }
 
   pub settles-not : (same : Bool) → Settles rule pool b e same false
@@ -453,7 +456,8 @@ module _ (rule pool : List ℕ) (b : Bindings) (e i k : ℕ) (ready : KnownRows 
           ∙ fold-one (quantifierOf (entryAt rule e .kind)) (bodyWith rule pool b e β) (rowAt pool r)
           ∙ body-certain rule pool b e i k (ready .ready) x x-is (r + 1) this-place b′ b-is want same v c g β f (rowAt pool r) this-row;
       alike = λ g t a β f. ap (concatMap (withReason rule pool b e β)) one-ranged
-          ∙ ap (λ (R : List Row). R ++ []) (body-same rule pool b e i k (ready .ready) x x-is (r + 1) this-place b′ b-is want same v c g t β f (rowAt pool r) this-row)
+          ∙ ap (λ (R : List Row). R ++ [])
+          (body-same rule pool b e i k (ready .ready) x x-is (r + 1) this-place b′ b-is want same v c g t β f (rowAt pool r) this-row)
           ∙ sym (ap (concatMap (withBody rule pool b e)) one-ranged);
     }
       where

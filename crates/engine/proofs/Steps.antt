@@ -1,9 +1,10 @@
 -- One law for each way through the evaluator and the row walk, over plain variables. Assumes nothing.
-use Prim.Native.Nat.{ℕ, _+_, _-_, _<_, _≤_}
+use Prim.Native.Nat.{ℕ, _+_, _-_, _<_, _≤_, suc}
 use mathlib.Core.Path.{_≡_, refl, sym, ap, ap₂, subst, _∙_}
 use mathlib.Core.Bool.{Bool, true, false, not, cond, Bool·beq, true≢false, false≢true}
 use mathlib.Core.List.{List, [], _∷_, _++_}
 use native.Mathlib.Omega.{arith}
+use lib.ListN.{set}
 use lib.Dec.{eqb}
 use Rattle.base.specs.Lists.{select}
 use Rattle.base.specs.Search.{first}
@@ -17,10 +18,11 @@ use Rattle.logic.specs.Formulas.{Connective, and, or, implies, every, some, for
 use Rattle.logic.specs.Verdict as meaning
 use Rattle.logic.specs.Marks.{leftDecides}
 use Rattle.logic.proofs.Walks.{select-halves, select-one, select-from, both-settled, both-decided, fold-append, fold-one}
-use Rattle.engine.specs.Places.{bindAt}
-use Rattle.engine.specs.Ready.{connectiveOf, quantifierOf, meant, comparedAt, rangesAt, Covers, Ready, verdictAt, ReadyRows, rangedFrom, bodyAt, verdictFrom}
+use Rattle.engine.specs.Places.{bindAt, placeOf}
+use Rattle.engine.specs.Ready.{connectiveOf, quantifierOf, Placed, meant, comparedAt, rangesAt, Covers, Ready, verdictAt}
+use Rattle.engine.specs.Ready.{ReadyRows, rangedFrom, bodyAt, verdictFrom}
 use Rattle.engine.specs.declared.bindings.Bindings.{Bindings}
-use Rattle.engine.proofs.Bound.{depth-bind, placed-bind, meant-bind, place-row}
+use Rattle.engine.proofs.Bound.{row-bind, depth-bind, placed-bind, meant-bind, place-row}
 use Rattle.engine.proofs.Opened.{Opened, opened, not-formula, joined-formula, quantified-formula, compared-formula}
 
 -- ---- two truth values that the code compares
@@ -162,9 +164,27 @@ module _ (rule pool : List ℕ) (b : Bindings) (e i k : ℕ) (ready : ReadyRows 
   pub room : b .depth < nestingLimit
   room = omega (arith, quantifier .nesting (ready .over-four) (ready .below-seven), ready .ready .depth-is)
 
-  -- the bindings hold the place of any row
-  pub low : (p : ℕ) → p ≤ rowCount pool → p ≤ rowLimit
-  low p h = omega (arith, few-rows pool (ready .ready .pool-accepted))
+  -- one more variable bound, to any place of the pool
+  module _ (p : ℕ) (h : p ≤ rowCount pool) where
+    low : p ≤ rowLimit
+    low = omega (arith, few-rows pool (ready .ready .pool-accepted))
+
+    pub row-bound : bindAt b p .row ≡ set (b .row) (b .depth) p
+    row-bound = row-bind pool b (ready .ready .placed) room p low
+
+    pub depth-bound : bindAt b p .depth ≡ suc (b .depth)
+    depth-bound = depth-bind pool b (ready .ready .placed) room p low
+
+    pub placed-bound : Placed pool (bindAt b p)
+    placed-bound = placed-bind pool b (ready .ready .placed) room p low h
+
+    pub meant-bound : meant pool (bindAt b p) ≡ meaning.bind (b .depth) (placeOf pool p) (meant pool b)
+    meant-bound = meant-bind pool b (ready .ready .placed) room p low
+
+  -- and to a row
+  pub meant-row : (j : ℕ) → j + 1 ≤ rowCount pool
+      → meant pool (bindAt b (j + 1)) ≡ meaning.bind (b .depth) (meaning.bound (rowAt pool j)) (meant pool b)
+  meant-row j h = meant-bound (j + 1) h ∙ ap (λ (p : meaning.Place). meaning.bind (b .depth) p (meant pool b)) (place-row pool j)
 
   -- the quantifier's verdict is that over the rows that it ranges over
   pub quantified-verdict : rangedFrom rule pool b e i k ≡ rangedFrom rule pool b e 0 (rowCount pool) → (r : Bool) → r ≡ verdictFrom rule pool b e i k → r ≡ verdictAt rule pool b e
@@ -190,15 +210,15 @@ module _ (rule pool : List ℕ) (b : Bindings) (e i k : ℕ) (ready : ReadyRows 
           rule-accepted = ready .ready .rule-accepted;
           pool-accepted = ready .ready .pool-accepted;
           inside = quantifier .child (ready .below-seven) .1;
-          depth-is = omega (arith, depth-bind pool b (ready .ready .placed) room p (low p h), quantifier .body-depth (ready .over-four) (ready .below-seven), ready .ready .depth-is);
-          placed = placed-bind pool b (ready .ready .placed) room p (low p h) h;
+          depth-is = omega (arith, depth-bound p h, quantifier .body-depth (ready .over-four) (ready .below-seven), ready .ready .depth-is);
+          placed = placed-bound p h;
         })
 
-    pub body-verdict : (j : ℕ) → j + 1 ≤ rowCount pool → (b′ : Bindings) → b′ ≡ bindAt b (j + 1) → verdictAt rule pool b′ (x .a) ≡ bodyAt rule pool b e (rowAt pool j)
+    pub body-verdict : (j : ℕ) → j + 1 ≤ rowCount pool → (b′ : Bindings) → b′ ≡ bindAt b (j + 1)
+        → verdictAt rule pool b′ (x .a) ≡ bodyAt rule pool b e (rowAt pool j)
     body-verdict j h b′ b-is =
         rw (b-is, x-is)
-        (ap₂ (meaning.holds (formulaAt rule (entryAt rule e .a)) (rows pool)) (depth-bind pool b (ready .ready .placed) room (j + 1) (low (j + 1) h))
-        (meant-bind pool b (ready .ready .placed) room (j + 1) (low (j + 1) h) ∙ ap (λ (p : meaning.Place). meaning.bind (b .depth) p (meant pool b)) (place-row pool j)))
+        (ap₂ (meaning.holds (formulaAt rule (entryAt rule e .a)) (rows pool)) (depth-bound (j + 1) h) (meant-row j h))
 
     pub settled-is : eqb (x .kind) 5 ≡ meaning.settled (quantifierOf (entryAt rule e .kind))
     settled-is = sym (settled-kind (x .kind)) ∙ ap (λ (z : Entry). meaning.settled (quantifierOf (z .kind))) x-is

@@ -78,7 +78,10 @@ module _ (rule t parents by : List ℕ) (d e i : ℕ) (ready : ReadyClimb rule t
   -- a chain with one more variable
   from-below : (b : Bindings) → Placed t b → reachAt rule t by d e (rowAt t i) ≡ meaning.bind d (meaning.bound (rowAt t i)) (meant t b) ∷ [] → (c : Chain) → c ≡ bindsFrom b d i → Climbed rule t by d e i c
   from-below b placed h c c-is = subst (Climbed rule t by d e i) (sym c-is) (record {
-    reaches = ap (λ (z : meaning.Bindings). z ∷ []) (meant-bind t at-d placed-d (ready .limit) (i + 1) (omega (arith, few)) ∙ ap (λ (p : meaning.Place). meaning.bind d p (meant t b)) (place-row t i)) ∙ sym h;
+    reaches =
+        ap (λ (z : meaning.Bindings). z ∷ [])
+        (meant-bind t at-d placed-d (ready .limit) (i + 1) (omega (arith, few)) ∙ ap (λ (p : meaning.Place). meaning.bind d p (meant t b)) (place-row t i))
+        ∙ sym h;
     placed = placed-bind t at-d placed-d (ready .limit) (i + 1) (omega (arith, few)) (omega (arith, ready .row-inside));
     deep = λ f. depth-bind t at-d placed-d (ready .limit) (i + 1) (omega (arith, few));
   })

@@ -17,7 +17,7 @@ use Rattle.logic.specs.Reading as meaning
 use Rattle.engine.specs.Places.{bindAt, placeOf}
 use Rattle.engine.specs.Ready.{quantifierOf, Placed, meant, rangesAt, Ready, ReadyRows, rangedFrom}
 use Rattle.engine.specs.declared.bindings.Bindings.{Bindings}
-use Rattle.engine.proofs.Bound.{depth-bind, meant-bind, place-row}
+use Rattle.engine.proofs.Bound.{place-row}
 use Rattle.engine.proofs.Falls.{entry-measure, rows-measure, below, falls-child, falls-body, falls-part}
 use Rattle.engine.proofs.Opened.{Opened, not-formula, joined-formula, compared-formula}
 use Rattle.engine.proofs.Steps as entries
@@ -102,12 +102,12 @@ module _ {rule t : List ℕ} {b : Bindings} {e i k : ℕ} (ready : ReadyRows rul
   over-limit = entries.over-limit rule t b e i k ready x x-is
 
   -- the body, with its own variable at a place
-  pub body-reads : (w : Bool) (p : ℕ) → p ≤ rowCount t → {b′ : Bindings} → b′ ≡ bindAt b p → readsAt rule t b′ (x .a) w ≡ meaning.reads w (body (placeOf t p))
+  pub body-reads : (w : Bool) (p : ℕ) → p ≤ rowCount t → {b′ : Bindings} → b′ ≡ bindAt b p
+      → readsAt rule t b′ (x .a) w ≡ meaning.reads w (body (placeOf t p))
   body-reads w p h b-is =
       rw (b-is, x-is)
       (ap (meaning.reads w) (ap₂ (meaning.reading (formulaAt rule (entryAt rule e .a)) (rows t))
-      (depth-bind t b (ready .ready .placed) (entries.room rule t b e i k ready) p (entries.low rule t b e i k ready p h))
-      (meant-bind t b (ready .ready .placed) (entries.room rule t b e i k ready) p (entries.low rule t b e i k ready p h))))
+      (entries.depth-bound rule t b e i k ready p h) (entries.meant-bound rule t b e i k ready p h)))
 
   body-ready : (p : ℕ) → p ≤ rowCount t → {b′ : Bindings} → b′ ≡ bindAt b p → Ready rule t b′ (x .a)
   body-ready p h {b′} b-is = entries.bound-ready rule t b e i k ready x x-is p h b′ b-is

@@ -16,5 +16,8 @@ decides-spec = tie.close (tie.spec
     (λ c κs. search needs)
     (λ c. search needs)
     (λ c κs. let s = c .before .before .before .before .before .before .before in bound-ready (now (s .args .rule)) (now (s .args .pool)) (s .args .b) (s .args .entry) (s .args .row) 1 (s .pre) _ (c .before .before .before .before .entry-at .ensures) (s .args .row + 1) (s .pre .place) _ (c .before .bind .ensures))
-    (λ c. let s = c .before .before .before .before .before .before .before .before .before in decides-row (now (s .args .rule)) (now (s .args .pool)) (s .args .b) (s .args .entry) (s .args .row) 1 (s .pre) _ (c .before .before .before .before .before .before .entry-at .ensures) (s .pre .place) _ (c .before .before .before .before .before .ranges .ensures) (c .before .before .before .before .if1 .taken) _ (c .before .before .before .bind .ensures) _ (c .before .holds .ensures))
+    (λ c. let s = c .before .before .before .before .before .before .before .before .before in
+    decides-row (now (s .args .rule)) (now (s .args .pool)) (s .args .b) (s .args .entry) (s .args .row) 1
+    (s .pre) _ (c .before .before .before .before .before .before .entry-at .ensures) (s .pre .place) _ (c .before .before .before .before .before .ranges .ensures)
+    (c .before .before .before .before .if1 .taken) _ (c .before .before .before .bind .ensures) _ (c .before .holds .ensures))
     (λ c. let s = c .before .before .before .before .before in decides-not (now (s .args .rule)) (now (s .args .pool)) (s .args .b) (s .args .entry) (s .args .row) 1 (s .pre) _ (c .before .before .entry-at .ensures) _ (c .before .ranges .ensures) (c .if1 .left)))

@@ -64,7 +64,11 @@ climb-none-requires t c κs =
 
 climb-reached-from-requires : (t : ℕ) → climb-lts.Need-reached-from-requires (climb-claims t) (climb-at t) climb.Post
 climb-reached-from-requires t c κs =
-    let s = c .before .before .before .before .before .before .before .before .before .before .before .before .before in (s .pre .1 .limit, climbs.few (now (s .args .rule)) (now (s .args .table)) (now (s .args .parents)) (s .args .by .entry) (s .args .variable) (s .args .entry) (s .args .row) (s .pre .1))
+    let s = c .before .before .before .before .before .before .before .before .before .before .before .before .before in (
+      s .pre .1 .limit,
+      climbs.few (now (s .args .rule)) (now (s .args .table)) (now (s .args .parents))
+          (s .args .by .entry) (s .args .variable) (s .args .entry) (s .args .row) (s .pre .1),
+    )
 
 climb-returns-3 : (t : ℕ) → climb-lts.Need-returns-3 (climb-claims t) (climb-at t) climb.Post
 climb-returns-3 t c =
@@ -108,7 +112,11 @@ climb-climb-requires t c κs =
 
 climb-reached-from-requires-2 : (t : ℕ) → climb-lts.Need-reached-from-requires-2 (climb-claims t) (climb-at t) climb.Post
 climb-reached-from-requires-2 t c κs =
-    let s = c .before .before .before .before .before .before .before .before .before .before .before .before .before .before .before .before .before in (s .pre .1 .limit, climbs.few (now (s .args .rule)) (now (s .args .table)) (now (s .args .parents)) (s .args .by .entry) (s .args .variable) (s .args .entry) (s .args .row) (s .pre .1))
+    let s = c .before .before .before .before .before .before .before .before .before .before .before .before .before .before .before .before .before in (
+      s .pre .1 .limit,
+      climbs.few (now (s .args .rule)) (now (s .args .table)) (now (s .args .parents))
+          (s .args .by .entry) (s .args .variable) (s .args .entry) (s .args .row) (s .pre .1),
+    )
 
 climb-returns-5 : (t : ℕ) → climb-lts.Need-returns-5 (climb-claims t) (climb-at t) climb.Post
 climb-returns-5 t c =

@@ -146,8 +146,8 @@ omits-omits-requires-4 t c κs =
     let ready = s .pre .1 .0 in
     let m = s .args .mode in
     let x-is = c .before .before .before .before .before .before .before .before .before .before .before .before .entry-at .ensures in
-    let h = laws.body-call ready m x-is (c .before .before .before .before .before .before .before .if2 .left) (c .before .before .before .before .before .if4 .left)
-    (c .before .before .before .climb .ensures) (c .before .before .lets-out .ensures) (c .with .ensures) (s .pre .0) in
+    let h = laws.body-call ready m x-is (c .before .before .before .before .before .before .before .if2 .left)
+    (c .before .before .before .before .before .if4 .left) (c .before .before .before .climb .ensures) (c .before .before .lets-out .ensures) (c .with .ensures) (s .pre .0) in
     (h .0, (h .1, s .pre .1 .1))
 
 omits-returns-5 : (t : ℕ) → omits-lts.Need-returns-5 (omits-claims t) (omits-at t) omits.Post
@@ -175,5 +175,6 @@ pub +omits-spec : {M : Type 1} → statement M
     close μ-omits
     (λ t. omits-lts.spec (omits-claims t) (omits-at t) omits.Post (omits-entry-at-requires t) (omits-cast-a t) (omits-omits-requires t)
     (omits-returns t) (omits-omits-requires-2 t) (omits-cast-omits t) (omits-omits-requires-3 t) (omits-returns-2 t) (omits-returns-3 t)
-    (omits-returns-4 t) (omits-cast-climb t) (omits-climb-requires t) (omits-lets-out-requires t) (omits-with-requires t) (omits-omits-requires-4 t) (omits-returns-5 t)
+    (omits-returns-4 t) (omits-cast-climb t)
+    (omits-climb-requires t) (omits-lets-out-requires t) (omits-with-requires t) (omits-omits-requires-4 t) (omits-returns-5 t)
     (omits-returns-6 t))
