@@ -13,8 +13,8 @@ use Rattle.base.specs.Search.{sumBelow}
 use Rattle.tables.specs.Answers.{isDone, andThen, unless, value, output}
 use Rattle.tables.specs.Words.{rowCount, rows, rowAt}
 use Rattle.tables.specs.Rules.{checkRule, acceptedRule}
-use Rattle.tables.specs.Tables.{checkTable, acceptedTable}
-use Rattle.tables.specs.Files.{countNames, refusalNames, digitByte, digitsUpTo, numberText, byteAfter, nextColumn, textFrom, writeText, checkFile}
+use Rattle.tables.specs.Tables.{rowLimit, checkTable, acceptedTable}
+use Rattle.tables.specs.Files.{countNames, refusalNames, digitByte, digitsUpTo, numberText, byteAfter, nextColumn, textFrom, writeText, checkFile, countWords, refusalWords}
 use Rattle.tables.specs.declared.Answer.{Answer}
 use Rattle.tables.specs.declared.Answer.the-variants.{Done, Refused}
 use Rattle.tables.proofs.Answers.{andThen-first, andThen-next, unless-next}
@@ -44,22 +44,28 @@ number-few : (k c w : ℕ) (ws : List ℕ) (n : ℕ) → w < 10 ^ suc n → leng
 unfolding textFrom
 number-few k c w ws n h = omega (arith, length-append (numberText w) (byteAfter k c ∷ textFrom k (nextColumn k c) ws), digits-few 10 n w h)
 
-refusal-few : (k p : ℕ) → k ≤ 19 → p ≤ 66560 → length (refusalText k p) ≤ 64
+refusal-few : (k p : ℕ) → k ≤ 19 → p ≤ fileLimit + rowLimit → length (refusalText k p) ≤ 64
 unfolding writeText textFrom
 refusal-few k p h l =
-    omega (arith, length-append refusalNames (textFrom 2 0 (k ∷ p ∷ [])), number-few 2 0 k (p ∷ []) 1 (omega arith), number-few 2 1 p [] 4 (omega arith))
+    omega (
+      arith,
+      length-append refusalNames (textFrom refusalWords 0 (k ∷ p ∷ [])),
+      number-few refusalWords 0 k (p ∷ []) 1 (omega arith),
+      number-few refusalWords 1 p [] 4 (omega arith),
+    )
 
-counts-few : (a b c d e : ℕ) → a ≤ 1 → b ≤ 1024 → c ≤ 1048576 → d ≤ 1048576 → e ≤ 1024 → length (countsText (a ∷ b ∷ c ∷ d ∷ e ∷ [])) ≤ 64
+counts-few : (a b c d e : ℕ) → a ≤ 1 → b ≤ rowLimit → c ≤ rowLimit * rowLimit → d ≤ rowLimit * rowLimit → e ≤ rowLimit
+    → length (countsText (a ∷ b ∷ c ∷ d ∷ e ∷ [])) ≤ 64
 unfolding writeText textFrom
 counts-few a b c d e ha hb hc hd he =
     omega (
       arith,
-      length-append countNames (textFrom 5 0 (a ∷ b ∷ c ∷ d ∷ e ∷ [])),
-      number-few 5 0 a (b ∷ c ∷ d ∷ e ∷ []) 0 (omega arith),
-      number-few 5 1 b (c ∷ d ∷ e ∷ []) 3 (omega arith),
-      number-few 5 2 c (d ∷ e ∷ []) 6 (omega arith),
-      number-few 5 3 d (e ∷ []) 6 (omega arith),
-      number-few 5 4 e [] 3 (omega arith),
+      length-append countNames (textFrom countWords 0 (a ∷ b ∷ c ∷ d ∷ e ∷ [])),
+      number-few countWords 0 a (b ∷ c ∷ d ∷ e ∷ []) 0 (omega arith),
+      number-few countWords 1 b (c ∷ d ∷ e ∷ []) 3 (omega arith),
+      number-few countWords 2 c (d ∷ e ∷ []) 6 (omega arith),
+      number-few countWords 3 d (e ∷ []) 6 (omega arith),
+      number-few countWords 4 e [] 3 (omega arith),
     )
 
 sum-most : (f : ℕ → ℕ) (most n : ℕ) → ((i : ℕ) → f i ≤ most) → sumBelow f n ≤ most * n
@@ -71,14 +77,14 @@ sum-most f most (suc n) h =
     omega (arith, sum-most f most n h, h n)
 
 module _ (rule pool : List ℕ) (rule-ok : acceptedRule rule ≡ true) (ok : acceptedTable pool ≡ true) where
-  pub parts-few : (mode : ℕ) → 1 ≤ mode → mode ≤ 3 → partsCount (formula rule) mode pool ≤ 1048576
+  pub parts-few : (mode : ℕ) → 1 ≤ mode → mode ≤ 3 → partsCount (formula rule) mode pool ≤ rowLimit * rowLimit
   unfolding partsCount
-  parts-few mode low high = omega (arith, sum-most (countAt (formula rule) mode pool) 1024 (rowCount pool) each, few-rows pool ok)
+  parts-few mode low high = omega (arith, sum-most (countAt (formula rule) mode pool) rowLimit (rowCount pool) each, few-rows pool ok)
     where
-      each : (i : ℕ) → countAt (formula rule) mode pool i ≤ 1024
+      each : (i : ℕ) → countAt (formula rule) mode pool i ≤ rowLimit
       each i = go (begins pool i)
         where
-          go : (b : Bool) → cond b (partCount (formula rule) mode pool (rowAt pool i .device)) 0 ≤ 1024
+          go : (b : Bool) → cond b (partCount (formula rule) mode pool (rowAt pool i .device)) 0 ≤ rowLimit
           go true = count-few rule pool rule-ok ok (rowAt pool i .device) mode low high
           go false = omega arith
 
@@ -91,12 +97,14 @@ pub report-few : (rf pf : List ℕ) → length (reportText rf pf) ≤ 64
 unfolding reportText reportAnswer
 report-few rf pf =
     go (andThen (sized 1 rf (ruleFile rf)) (sized 8 pf (poolFile pf)))
-    (small-then 66560 (sized 1 rf (ruleFile rf)) _ (small-sized 1 rf (ruleFile rf) (omega arith) (small-rule-file rf)) (small-sized 8 pf (poolFile pf) (omega arith) (small-pool-file pf)))
+    (small-then (fileLimit + rowLimit) (sized 1 rf (ruleFile rf)) _
+    (small-sized 1 rf (ruleFile rf) (omega arith) (small-rule-file rf)) (small-sized 8 pf (poolFile pf) (omega arith) (small-pool-file pf)))
     (λ e. text-few (ruleOf rf) (poolOf pf)
     (andThen-next (checkFile _ _ rf) (checkRule (ruleOf rf)) (unless-next (leb (length rf) fileLimit) 1 (ruleFile rf) (andThen-first (sized 1 rf (ruleFile rf)) _ e)))
     (andThen-next (checkFile _ _ pf) (checkTable (poolOf pf)) (unless-next (leb (length pf) fileLimit) 8 (poolFile pf) (andThen-next (sized 1 rf (ruleFile rf)) _ e))))
   where
-    go : (a : Answer) → Small 66560 a → (isDone a ≡ true → length (countsText (counts (ruleOf rf) (poolOf pf))) ≤ 64) → length (textOf a (counts (ruleOf rf) (poolOf pf))) ≤ 64
+    go : (a : Answer) → Small (fileLimit + rowLimit) a → (isDone a ≡ true → length (countsText (counts (ruleOf rf) (poolOf pf))) ≤ 64)
+        → length (textOf a (counts (ruleOf rf) (poolOf pf))) ≤ 64
     go (Done n) s h = h refl
     go (Refused k p) s h = refusal-few k p (s .number-le) (s .place-le)
 

@@ -14,7 +14,7 @@ use Rattle.base.proofs.Lists.{length-select}
 use Rattle.tables.specs.Answers.{value}
 use Rattle.tables.specs.Words.{rowCount, rows}
 use Rattle.tables.specs.Rules.{one, acceptedRule}
-use Rattle.tables.specs.Tables.{acceptedTable}
+use Rattle.tables.specs.Tables.{rowLimit, acceptedTable}
 use Rattle.tables.specs.declared.Row.{Row}
 use Rattle.tables.specs.declared.Answer.{Answer}
 use Rattle.tables.proofs.Accepted.{few-rows}
@@ -73,11 +73,12 @@ one-few true = omega arith
 one-few false = omega arith
 
 module _ (rule pool : List ℕ) (rule-ok : acceptedRule rule ≡ true) (ok : acceptedTable pool ≡ true) where
-  pub marked-few : markedCount (formula rule) (rows pool) ≤ 1024
+  pub marked-few : markedCount (formula rule) (rows pool) ≤ rowLimit
   unfolding markedCount
   marked-few = omega (arith, length-select (marked (formula rule) (rows pool)) (rows pool), length-rows pool, few-rows pool ok)
 
-  module _ (out out′ : List ℕ) (long : length out ≡ 1024) (a : Answer) (ea : a ≡ marksAnswer rule pool (length out)) (eo : out′ ≡ marksOut rule pool out) where
+  module _ (out out′ : List ℕ) (long : length out ≡ rowLimit) (a : Answer) (ea : a ≡ marksAnswer rule pool (length out))
+      (eo : out′ ≡ marksOut rule pool out) where
     room : rowCount pool ≤ length out
     room = omega (arith, few-rows pool ok)
 
@@ -97,7 +98,7 @@ module _ (rule pool : List ℕ) (rule-ok : acceptedRule rule ≡ true) (ok : acc
     unfolding markedCount
     marks-are = ones-is (marked (formula rule) (rows pool)) (rows pool)
 
-    pub marked-count : (n : ℕ) → n ≡ length (select isOne (take (rowCount pool) out′)) → (n ≡ markedCount (formula rule) (rows pool)) × (n ≤ 1024)
+    pub marked-count : (n : ℕ) → n ≡ length (select isOne (take (rowCount pool) out′)) → (n ≡ markedCount (formula rule) (rows pool)) × (n ≤ rowLimit)
     marked-count n e =
         let w : n ≡ markedCount (formula rule) (rows pool) = e ∙ ap (λ (l : List ℕ). length (select isOne l)) bytes ∙ marks-are in
         (w, omega (arith, marked-few))

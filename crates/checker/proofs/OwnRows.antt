@@ -14,9 +14,9 @@ use Rattle.base.proofs.Bools.{either}
 use Rattle.base.proofs.Lists.{select-append, select-all, select-none, select-out, length-select}
 use Rattle.base.proofs.Search.{Passed, begin, miss, first-le}
 use Rattle.tables.specs.Answers.{value, unless}
-use Rattle.tables.specs.Words.{rowAt, rowCount, rows}
+use Rattle.tables.specs.Words.{rowWords, rowAt, rowCount, rows}
 use Rattle.tables.specs.Rules.{acceptedRule}
-use Rattle.tables.specs.Tables.{acceptedTable}
+use Rattle.tables.specs.Tables.{rowLimit, acceptedTable}
 use Rattle.tables.specs.Devices.{fromDevice}
 use Rattle.tables.specs.declared.Row.{Row}
 use Rattle.tables.specs.declared.Answer.{Answer}
@@ -33,7 +33,7 @@ use Rattle.logic.proofs.Calls.{part-is}
 use Rattle.checker.specs.Report.{deviceRows, begins, partCount, countAt}
 
 -- ---- three runs of whole rows, of which the middle one has the rows of device d
-module _ (A M B : List ℕ) (m n : ℕ) (d : ℕ) (la : length A ≡ 5 * m) (lm : length M ≡ 5 * n)
+module _ (A M B : List ℕ) (m n : ℕ) (d : ℕ) (la : length A ≡ rowWords * m) (lm : length M ≡ rowWords * n)
     (before : (i : ℕ) → i < m → ¬ (rowAt (A ++ (M ++ B)) i .device ≡ d))
     (inside : (i : ℕ) → i < n → rowAt (A ++ (M ++ B)) (m + i) .device ≡ d)
     (past : (i : ℕ) → i < rowCount B → ¬ (rowAt (A ++ (M ++ B)) (m + n + i) .device ≡ d)) where
@@ -92,7 +92,7 @@ module _ (t : List ℕ) (ok : acceptedTable t ≡ true) (i : ℕ) (h : i < rowCo
   passed (suc k) l = subst (Passed behind (rowCount t)) (add-one k) (miss behind (rowCount t) k (passed k (omega arith)) (omega arith) (not-behind d (rowAt t k .device) (rises t ok k i (omega arith) h)))
 
   module _ (end : ℕ) (is : end ≡ fromDevice t (d + 1)) where
-    pub ends : (i < end) × (5 * end ≤ length t)
+    pub ends : (i < end) × (rowWords * end ≤ length t)
     ends = (omega (arith, of-device t ok d i h refl .1), omega (arith, first-le behind (rowCount t), whole-rows t ok))
 
     -- where row i begins it, it is the first
@@ -106,20 +106,21 @@ module _ (t : List ℕ) (ok : acceptedTable t ≡ true) (i : ℕ) (h : i < rowCo
         (λ s. omega (arith, ltb-false (fromDevice t d) i s, of-device t ok d i h refl .0))
 
     -- from there to the end are its rows, and all of them
-    pub own-words : begins t i ≡ true → take (5 * end - 5 * i) (drop (5 * i) t) ≡ wordsOf (deviceRows (rows t) d)
+    pub own-words : begins t i ≡ true → take (rowWords * end - rowWords * i) (drop (rowWords * i) t) ≡ wordsOf (deviceRows (rows t) d)
     own-words b =
-        let A = take (5 * i) t in
-        let M = take (5 * end - 5 * i) (drop (5 * i) t) in
-        let B = drop (5 * end - 5 * i) (drop (5 * i) t) in
+        let A = take (rowWords * i) t in
+        let M = take (rowWords * end - rowWords * i) (drop (rowWords * i) t) in
+        let B = drop (rowWords * end - rowWords * i) (drop (rowWords * i) t) in
         let start : fromDevice t d ≡ i = starts b in
         let later : i < end = ends .0 in
-        let within : 5 * end ≤ length t = ends .1 in
-        let size : length t ≡ 5 * rowCount t = whole-rows t ok in
-        let rest : length (drop (5 * i) t) ≡ length t - 5 * i = length-drop (5 * i) t in
-        let la : length A ≡ 5 * i = length-take-le (5 * i) t (omega arith) in
-        let lm : length M ≡ 5 * (end - i) = length-take-le (5 * end - 5 * i) (drop (5 * i) t) (omega arith) ∙ omega arith in
-        let lb : length B ≡ length t - 5 * end = length-drop (5 * end - 5 * i) (drop (5 * i) t) ∙ omega arith in
-        let e : A ++ (M ++ B) ≡ t = ap (_++_ A) (take-append-drop (5 * end - 5 * i) (drop (5 * i) t)) ∙ take-append-drop (5 * i) t in
+        let within : rowWords * end ≤ length t = ends .1 in
+        let size : length t ≡ rowWords * rowCount t = whole-rows t ok in
+        let rest : length (drop (rowWords * i) t) ≡ length t - rowWords * i = length-drop (rowWords * i) t in
+        let la : length A ≡ rowWords * i = length-take-le (rowWords * i) t (omega arith) in
+        let lm : length M ≡ rowWords * (end - i) = length-take-le (rowWords * end - rowWords * i) (drop (rowWords * i) t) (omega arith) ∙ omega arith in
+        let lb : length B ≡ length t - rowWords * end = length-drop (rowWords * end - rowWords * i) (drop (rowWords * i) t) ∙ omega arith in
+        let e : A ++ (M ++ B) ≡ t
+        = ap (_++_ A) (take-append-drop (rowWords * end - rowWords * i) (drop (rowWords * i) t)) ∙ take-append-drop (rowWords * i) t in
         sym (middle A M B i (end - i) d la lm
         (λ k l q. absurd (omega (arith, of-device t ok d k (omega arith) (ap (λ (l : List ℕ). rowAt l k .device) (sym e) ∙ q) .0)))
         (λ k l. ap (λ (l : List ℕ). rowAt l (i + k) .device) e ∙ in-part t ok d (i + k) (omega arith) (omega arith) (omega arith))
@@ -130,7 +131,7 @@ module _ (t : List ℕ) (ok : acceptedTable t ≡ true) (d : ℕ) where
   own-accepted : acceptedTable (wordsOf (deviceRows (rows t) d)) ≡ true
   own-accepted = kept-accepted t ok (λ r. eqb (r .device) d) (λ r p i j k c. eq-eqb (p .device) d (parent-device r p c ∙ eqb-true (r .device) d k))
 
-  pub own-few : length (deviceRows (rows t) d) ≤ 1024
+  pub own-few : length (deviceRows (rows t) d) ≤ rowLimit
   own-few = omega (arith, length-select (λ r. eqb (r .device) d) (rows t), length-rows t, few-rows t ok)
 
 -- ---- a part has at most all rows
@@ -145,11 +146,11 @@ part-few F mode D = go (eqb mode 1) (eqb mode 2)
 
 -- ---- the call for the part of one device of an accepted pool
 module _ (rule t : List ℕ) (rule-ok : acceptedRule rule ≡ true) (ok : acceptedTable t ≡ true) (d mode : ℕ) (low : 1 ≤ mode) (high : mode ≤ 3) where
-  pub count-few : partCount (formula rule) mode t d ≤ 1024
+  pub count-few : partCount (formula rule) mode t d ≤ rowLimit
   count-few = omega (arith, part-few (formula rule) mode (deviceRows (rows t) d), own-few t ok d)
 
-  pub part-count : (words : List ℕ) (room : ℕ) (a : Answer) → words ≡ wordsOf (deviceRows (rows t) d) → 5120 ≤ room
-      → a ≡ partAnswer rule words mode room → (v : ℕ) → v ≡ value a → (v ≡ partCount (formula rule) mode t d) × (v ≤ 1024)
+  pub part-count : (words : List ℕ) (room : ℕ) (a : Answer) → words ≡ wordsOf (deviceRows (rows t) d) → rowLimit * rowWords ≤ room
+      → a ≡ partAnswer rule words mode room → (v : ℕ) → v ≡ value a → (v ≡ partCount (formula rule) mode t d) × (v ≤ rowLimit)
   part-count words room a is h q v k =
       let D = deviceRows (rows t) d in
       let out : List ℕ = replicate room 0 in

@@ -12,13 +12,14 @@ use Rattle.base.specs.Search.{first, some}
 use Rattle.base.proofs.Bools.{and-left, and-right}
 use Rattle.base.proofs.Search.{first-le}
 use Rattle.tables.specs.Answers.{number, place, andThen, unless, inOrder}
-use Rattle.tables.specs.Words.{whole, entryWords, rowWords, entryCount, rowCount, rows}
+use Rattle.tables.specs.Words.{entryWords, rowWords, entryCount, rowCount, rows}
 use Rattle.tables.specs.Rules.{one, ruleLength, entryFault, checkRule}
-use Rattle.tables.specs.Tables.{tableLength, rowFault, checkTable}
+use Rattle.tables.specs.Tables.{rowLimit, tableLength, rowFault, checkTable}
 use Rattle.tables.specs.Files.{ruleNames, poolNames, stepOf, scanAll, atStart, startsWith, atLine, atEnd, lines, readWords, checkFile}
 use Rattle.tables.specs.declared.Answer.{Answer}
 use Rattle.tables.specs.declared.Answer.the-variants.{Done, Refused}
 use Rattle.tables.specs.declared.reading.Scan.{Scan}
+use Rattle.tables.proofs.Whole.{rule-few, table-few}
 use Rattle.tables.proofs.Steps.{step-counted}
 use Rattle.logic.specs.Formulas.{formula}
 use Rattle.logic.specs.Verdict.{verdict}
@@ -49,17 +50,17 @@ small-order fault n (k ∷ ks) e = go (some (fault k) n) (small-order fault n ks
     go true s = record { number-le = leb-true k 19 (and-left (leb k 19) (all (λ k. leb k 19) ks) e); place-le = first-le (fault k) n }
     go false s = s
 
-small-rule : (r : List ℕ) → Small 1024 (checkRule r)
+small-rule : (r : List ℕ) → Small rowLimit (checkRule r)
 unfolding checkRule
-small-rule r = small-unless 1024 (ruleLength r) 1 _ (omega arith)
-    (λ e. small-wider (entryCount r) 1024 _
-    (omega (arith, leb-true (entryCount r) 128 (and-right (leb 1 (entryCount r)) _ (and-right (whole entryWords r) _ e))))
+small-rule r = small-unless rowLimit (ruleLength r) 1 _ (omega arith)
+    (λ e. small-wider (entryCount r) rowLimit _
+    (omega (arith, rule-few r e))
     (small-order (entryFault r) (entryCount r) (2 ∷ 3 ∷ 4 ∷ 5 ∷ 6 ∷ 7 ∷ []) refl))
 
-small-table : (t : List ℕ) → Small 1024 (checkTable t)
+small-table : (t : List ℕ) → Small rowLimit (checkTable t)
 unfolding checkTable
-small-table t = small-unless 1024 (tableLength t) 8 _ (omega arith)
-    (λ e. small-wider (rowCount t) 1024 _ (leb-true (rowCount t) 1024 (and-right (whole rowWords t) _ e))
+small-table t = small-unless rowLimit (tableLength t) 8 _ (omega arith)
+    (λ e. small-wider (rowCount t) rowLimit _ (table-few t e)
     (small-order (rowFault t) (rowCount t) (9 ∷ 10 ∷ 11 ∷ 12 ∷ []) refl))
 
 -- a line more takes a byte
@@ -68,11 +69,12 @@ unfolding scanAll
 line-le k s [] = omega arith
 line-le k s (b ∷ bs) = omega (arith, line-le k (stepOf k s b) bs, step-counted k s b .line-le)
 
-small-lines : (names : List ℕ) (k : ℕ) (file : List ℕ) → Small (length file + 1024) (checkFile names k file)
+small-lines : (names : List ℕ) (k : ℕ) (file : List ℕ) → Small (length file + rowLimit) (checkFile names k file)
 unfolding checkFile
 small-lines names k file = go (startsWith names file) (atLine (atEnd names k file))
   where
-    go : (a b : Bool) → Small (length file + 1024) (cond a (cond b (Done (length (readWords names k file))) (Refused 19 (atEnd names k file .line))) (Refused 18 1))
+    go : (a b : Bool)
+        → Small (length file + rowLimit) (cond a (cond b (Done (length (readWords names k file))) (Refused 19 (atEnd names k file .line))) (Refused 18 1))
     go true true = record { number-le = omega arith; place-le = omega arith }
     go true false = record {
       number-le = omega arith;
@@ -80,20 +82,21 @@ small-lines names k file = go (startsWith names file) (atLine (atEnd names k fil
     }
     go false b = record { number-le = omega arith; place-le = omega arith }
 
-small-file : (names : List ℕ) (k : ℕ) (check : List ℕ → Answer) (file : List ℕ) → ((ws : List ℕ) → Small 1024 (check ws)) → Small (length file + 1024) (tableFile names k check file)
+small-file : (names : List ℕ) (k : ℕ) (check : List ℕ → Answer) (file : List ℕ) → ((ws : List ℕ) → Small rowLimit (check ws))
+    → Small (length file + rowLimit) (tableFile names k check file)
 small-file names k check file h = small-then _ (checkFile names k file) _ (small-lines names k file)
-    (small-wider 1024 (length file + 1024) _ (omega arith) (h (readWords names k file)))
+    (small-wider rowLimit (length file + rowLimit) _ (omega arith) (h (readWords names k file)))
 
-pub small-rule-file : (file : List ℕ) → Small (length file + 1024) (ruleFile file)
+pub small-rule-file : (file : List ℕ) → Small (length file + rowLimit) (ruleFile file)
 small-rule-file file = small-file ruleNames entryWords checkRule file small-rule
 
-pub small-pool-file : (file : List ℕ) → Small (length file + 1024) (poolFile file)
+pub small-pool-file : (file : List ℕ) → Small (length file + rowLimit) (poolFile file)
 small-pool-file file = small-file poolNames rowWords checkTable file small-table
 
 -- ---- the program's refusals: a place has at most five digits
-pub small-sized : (k : ℕ) (file : List ℕ) (next : Answer) → k ≤ 19 → Small (length file + 1024) next → Small 66560 (sized k file next)
-small-sized k file next h s = small-unless 66560 (leb (length file) fileLimit) k next h
-    (λ e. small-wider (length file + 1024) 66560 next (omega (arith, leb-true (length file) fileLimit e)) s)
+pub small-sized : (k : ℕ) (file : List ℕ) (next : Answer) → k ≤ 19 → Small (length file + rowLimit) next → Small (fileLimit + rowLimit) (sized k file next)
+small-sized k file next h s = small-unless (fileLimit + rowLimit) (leb (length file) fileLimit) k next h
+    (λ e. small-wider (length file + rowLimit) (fileLimit + rowLimit) next (omega (arith, leb-true (length file) fileLimit e)) s)
 
 -- ---- what the C entry returns
 returned-then : (p : ℕ) (a b : Answer) → Small p a → returned b ≤ 119 → returned (andThen a b) ≤ 119

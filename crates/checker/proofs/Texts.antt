@@ -1,5 +1,5 @@
 -- Which text the program prints, from the answers of loading both files. Assumes nothing.
-use Prim.Native.Nat.{ℕ, _≤_, _<_}
+use Prim.Native.Nat.{ℕ, _+_, _≤_, _<_}
 use mathlib.Core.Path.{_≡_, refl, sym, ap, subst, _∙_}
 use mathlib.Core.Bool.{true}
 use mathlib.Core.List.{List}
@@ -9,7 +9,7 @@ use lib.Dec.{leb}
 use borrow.Author.Tests.{le-leb, lt-leb}
 use Rattle.tables.specs.Answers.{isDone, place, andThen, value}
 use Rattle.tables.specs.Rules.{checkRule, acceptedRule}
-use Rattle.tables.specs.Tables.{checkTable, acceptedTable}
+use Rattle.tables.specs.Tables.{rowLimit, checkTable, acceptedTable}
 use Rattle.tables.specs.Files.{checkFile, writeText, writeAnswer, writeOut}
 use Rattle.tables.specs.declared.Answer.{Answer}
 use Rattle.tables.specs.declared.Answer.the-variants.{Done, Refused}
@@ -79,8 +79,8 @@ module _ (rf : List ℕ) {a : Answer} {out : List ℕ} (l : Loaded (sized 1 rf (
   rule-accepted n e =
       rw (l .held n e) (andThen-next (checkFile _ _ rf) (checkRule (ruleOf rf)) (unless-next (leb (length rf) fileLimit) 1 (ruleFile rf) (loaded-done l n e)))
 
-  pub rule-place : (m p : ℕ) → a ≡ Refused m p → p ≤ 66560
-  rule-place m p e = place-small l 66560 m p (small-sized 1 rf (ruleFile rf) (omega arith) (small-rule-file rf)) e
+  pub rule-place : (m p : ℕ) → a ≡ Refused m p → p ≤ fileLimit + rowLimit
+  rule-place m p e = place-small l (fileLimit + rowLimit) m p (small-sized 1 rf (ruleFile rf) (omega arith) (small-rule-file rf)) e
 
   pub rule-next : (pf : List ℕ) (n : ℕ) → a ≡ Done n → textOf (sized 8 pf (poolFile pf)) (counts (take n out) (poolOf pf)) ≡ reportText rf pf
   unfolding reportText reportAnswer
@@ -95,5 +95,5 @@ module _ (pf : List ℕ) {a : Answer} {out : List ℕ} (l : Loaded (sized 8 pf (
   pool-accepted n e =
       rw (l .held n e) (andThen-next (checkFile _ _ pf) (checkTable (poolOf pf)) (unless-next (leb (length pf) fileLimit) 8 (poolFile pf) (loaded-done l n e)))
 
-  pub pool-place : (m p : ℕ) → a ≡ Refused m p → p ≤ 66560
-  pool-place m p e = place-small l 66560 m p (small-sized 8 pf (poolFile pf) (omega arith) (small-pool-file pf)) e
+  pub pool-place : (m p : ℕ) → a ≡ Refused m p → p ≤ fileLimit + rowLimit
+  pool-place m p e = place-small l (fileLimit + rowLimit) m p (small-sized 8 pf (poolFile pf) (omega arith) (small-pool-file pf)) e

@@ -90,7 +90,7 @@ fn count_at(rule: &[u32], pool: &[u32], i: usize, mode: u32) -> usize
 // The rows of the parts of all devices.
 fn parts_count(rule: &[u32], pool: &[u32], mode: u32) -> usize
     requires { ⌜ (acceptedRule (now rule) ≡ true) × (acceptedTable (now pool) ≡ true) × (1 ≤ mode) × (mode ≤ 3) ⌝ }
-    ensures { λ r. ⌜ (r ≡ partsCount (formula (now (rule .entry))) mode (now (pool .entry))) × (r ≤ 1048576) ⌝ }
+    ensures { λ r. ⌜ (r ≡ partsCount (formula (now (rule .entry))) mode (now (pool .entry))) × (r ≤ rowLimit * rowLimit) ⌝ }
 {
     let n = pool.len() / ROW_WORDS;
     let mut sum = 0;

@@ -10,14 +10,14 @@ use tables::write_counts;
 use tables::write_refusal;
 ghost use mathlib.Core.Path.{_≡_};
 ghost use mathlib.Core.Bool.{true};
-ghost use Prim.Native.Nat.{_*_, _≤_};
+ghost use Prim.Native.Nat.{_+_, _*_, _≤_};
 ghost use lib.ListN.{length};
 ghost use Rattle.tables.specs.Words.{rowWords, entryWords};
 ghost use Rattle.tables.specs.Rules.{entryLimit, acceptedRule};
 ghost use Rattle.tables.specs.Tables.{rowLimit, acceptedTable};
 ghost use Rattle.checker.specs.Files.{ruleOf, poolOf, ruleFile, poolFile};
 ghost use Rattle.checker.specs.Loading.{Loaded};
-ghost use Rattle.checker.specs.Report.{sized, counts, countsText, refusalText, textOf, printed, printedOut, reportLength, reportOut};
+ghost use Rattle.checker.specs.Report.{fileLimit, sized, counts, countsText, refusalText, textOf, printed, printedOut, reportLength, reportOut};
 
 // The longest file that the program takes, in bytes.
 const FILE_LIMIT: usize = 65536;
@@ -52,7 +52,7 @@ fn load_sized_pool(file: &[u8], out: &mut [u32]) -> Answer
 
 // Writes a refusal.
 fn put_refusal(number: u32, place: usize, out: &mut [u8]) -> usize
-    requires { ⌜ place ≤ 66560 ⌝ }
+    requires { ⌜ place ≤ fileLimit + rowLimit ⌝ }
     ensures count { λ r. ⌜ r ≡ printed (refusalText number place) (length (now (out .entry))) ⌝ }
     ensures bytes { λ r. ⌜ now (out .exit) ≡ printedOut (refusalText number place) (now (out .entry)) ⌝ }
 {

@@ -35,8 +35,8 @@ module _ (f : Device → List ℕ) where
   pub whole-concat : (ds : List Device) → ((d : Device) → d ∈ ds → whole rowWords (f d) ≡ true) → whole rowWords (concatMap f ds) ≡ true
   whole-concat [] h = refl
   whole-concat (d ∷ ds) h =
-      let e : length (f d) ≡ 5 * rowCount (f d) = whole-is (f d) (h d (List·Memᴰ·head refl)) in
-      let g : length (concatMap f ds) ≡ 5 * rowCount (concatMap f ds) = whole-is (concatMap f ds) (whole-concat ds (λ x m. h x (List·Memᴰ·tail m))) in
+      let e : length (f d) ≡ rowWords * rowCount (f d) = whole-is (f d) (h d (List·Memᴰ·head refl)) in
+      let g : length (concatMap f ds) ≡ rowWords * rowCount (concatMap f ds) = whole-is (concatMap f ds) (whole-concat ds (λ x m. h x (List·Memᴰ·tail m))) in
       is-whole (f d ++ concatMap f ds) (rowCount (f d ++ concatMap f ds)) (omega (arith, length-append (f d) (concatMap f ds)))
 
   pub rows-concat : (ds : List Device) → ((d : Device) → d ∈ ds → whole rowWords (f d) ≡ true) → rows (concatMap f ds) ≡ concatMap (λ d. rows (f d)) ds

@@ -25,7 +25,7 @@ module _ (t : List ℕ) (ok : acceptedTable t ≡ true) where
       → acceptedTable (wordsOf (select keep (rows t))) ≡ true
   kept-accepted keep closed =
       let S = select keep (rows t) in
-      let words : length (wordsOf S) ≡ 5 * length S = length-words S in
+      let words : length (wordsOf S) ≡ rowWords * length S = length-words S in
       let few : length S ≤ length (rows t) = length-select keep (rows t) in
       let count : length (rows t) ≡ rowCount t = length-rows t in
       let most : rowCount t ≤ rowLimit = few-rows t ok in

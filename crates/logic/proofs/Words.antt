@@ -1,28 +1,28 @@
 -- The words of rows and the rows of words are each other's inverse. Assumes nothing.
 use Prim.Native.Nat.{ℕ, zero, suc, _*_, _%_}
-use native.Mathlib.Nat.{div-add-mod'}
 use native.Mathlib.Omega.{arith}
 use mathlib.Core.Path.{_≡_, refl, ap, _∙_}
 use mathlib.Core.Bool.{true}
 use mathlib.Core.List.{List, [], _∷_}
 use lib.ListN.{length}
-use borrow.Author.Tests.{eqb-true, eq-eqb}
+use borrow.Author.Tests.{eq-eqb}
 use Rattle.tables.specs.Words.{whole, rowWords, rowCount, rowsFrom, rows}
 use Rattle.tables.specs.declared.Row.{Row}
+use Rattle.tables.proofs.Whole.{whole-lines}
 use Rattle.tables.proofs.RowLists.{rows-append}
 use Rattle.logic.specs.Parts.{wordsOf}
 
 -- ---- whole rows
 pub whole-is : (t : List ℕ) → whole rowWords t ≡ true → length t ≡ rowWords * rowCount t
-whole-is t e = let z : length t % 5 ≡ 0 = eqb-true (length t % 5) 0 e in omega (arith, div-add-mod' (length t) 5)
+whole-is t e = whole-lines rowWords t e
 
 pub is-whole : (t : List ℕ) (n : ℕ) → length t ≡ rowWords * n → whole rowWords t ≡ true
-is-whole t n h = eq-eqb (length t % 5) 0 (omega arith)
+is-whole t n h = eq-eqb (length t % rowWords) 0 (omega arith)
 
 -- ---- rows as words
 pub length-words : (D : List Row) → length (wordsOf D) ≡ rowWords * length D
 length-words [] = refl
-length-words (r ∷ D) = let e : length (wordsOf D) ≡ 5 * length D = length-words D in omega arith
+length-words (r ∷ D) = let e : length (wordsOf D) ≡ rowWords * length D = length-words D in omega arith
 
 pub words-whole : (D : List Row) → whole rowWords (wordsOf D) ≡ true
 words-whole D = is-whole (wordsOf D) (length D) (length-words D)
@@ -32,7 +32,7 @@ unfolding rowsFrom
 rows-words [] = refl
 rows-words (r ∷ D) = rows-append (wordsOf (r ∷ [])) (wordsOf D) refl ∙ ap (_∷_ r) (rows-words D)
 
-from-words : (n : ℕ) (t : List ℕ) → length t ≡ 5 * n → wordsOf (rows t) ≡ t
+from-words : (n : ℕ) (t : List ℕ) → length t ≡ rowWords * n → wordsOf (rows t) ≡ t
 unfolding rowsFrom
 from-words n [] h = refl
 from-words n (a ∷ []) h = absurd (omega arith)

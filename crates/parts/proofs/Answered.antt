@@ -10,7 +10,7 @@ use lib.Dec.{eqb, ltb, leb}
 use borrow.Author.Tests.{eq-eqb, ne-eqb, eqb-true, lt-ltb, le-ltb, le-leb, lt-leb, not-false}
 use Rattle.base.specs.Search.{first, some, sumBelow}
 use Rattle.tables.specs.Answers.{isDone, andThen, unless, unlessAny}
-use Rattle.tables.specs.Words.{rowAt, rowCount, rows}
+use Rattle.tables.specs.Words.{rowWords, rowAt, rowCount, rows}
 use Rattle.tables.specs.Rules.{checkRule}
 use Rattle.tables.specs.Tables.{checkTable}
 use Rattle.tables.specs.declared.Row.{Row}
@@ -151,13 +151,13 @@ module _ (rule t : List ℕ) (m room : ℕ) where
         count-sent : count ≡ length sent
         count-sent = count-of ∙ ap (sumBelow (λ j. getD kept j 0)) n-is ∙ count-is rule t kept m keeps
 
-        words-sent : length (wordsOf sent) ≡ 5 * count
-        words-sent = length-words sent ∙ ap (λ (j : ℕ). 5 * j) (sym count-sent)
+        words-sent : length (wordsOf sent) ≡ rowWords * count
+        words-sent = length-words sent ∙ ap (λ (j : ℕ). rowWords * j) (sym count-sent)
 
-        pub short-refused : room < 5 * count → Refused 17 0 ≡ partAnswer rule t m room
+        pub short-refused : room < rowWords * count → Refused 17 0 ≡ partAnswer rule t m room
         short-refused h = sym (short-is ∙ ap (λ (b : Bool). unless b 17 (Done (length sent))) (lt-leb (length (wordsOf sent)) room (omega (arith, words-sent))))
 
-        part-done : 5 * count ≤ room → Done count ≡ partAnswer rule t m room
+        part-done : rowWords * count ≤ room → Done count ≡ partAnswer rule t m room
         part-done h =
             sym (short-is ∙ ap (λ (b : Bool). unless b 17 (Done (length sent))) (le-leb (length (wordsOf sent)) room (omega (arith, words-sent)))
             ∙ ap Done (sym count-sent))
@@ -165,7 +165,7 @@ module _ (rule t : List ℕ) (m room : ℕ) where
         rows-fit : n ≤ length kept
         rows-fit = omega (arith, few-rows t (ready .device .accepted), keeps .sized)
 
-        pub chooses-done : 5 * count ≤ room → Chooses rule t m room (record { answer = Done count; row = kept })
+        pub chooses-done : rowWords * count ≤ room → Chooses rule t m room (record { answer = Done count; row = kept })
         chooses-done h = record {
           answer = part-done h;
           sized = λ _. omega (arith, rows-fit);

@@ -10,7 +10,7 @@ use lib.ListN.{getD}
 use borrow.Author.Tests.{eq-eqb, ne-eqb}
 use Rattle.base.specs.Lists.{select, when}
 use Rattle.tables.specs.Words.{rowAt, rows, entryAt}
-use Rattle.tables.specs.Tables.{root, isParent}
+use Rattle.tables.specs.Tables.{root, isParent, rowLimit}
 use Rattle.tables.specs.declared.Row.{Row}
 use Rattle.tables.specs.declared.Entry.{Entry}
 use Rattle.tables.proofs.Accepted.{few-rows}
@@ -65,7 +65,7 @@ from-parent D v n d K r p L e f g = rw (e, f, g, append-nil L)
 
 -- ---- the code's ways
 module _ (rule t parents by : List ℕ) (d e i : ℕ) (ready : ReadyClimb rule t parents by d e i) where
-  pub few : i < 1024
+  pub few : i < rowLimit
   few = omega (arith, ready .row-inside, few-rows t (ready .table-accepted))
 
   unreached : reachAt rule t by d e (rowAt t i) ≡ [] → (c : Chain) → c ≡ notReached → Climbed rule t by d e i c

@@ -12,13 +12,13 @@ use lib.Dec.{eqb}
 use borrow.Author.Tests.{eqb-true, eqb-false}
 use Rattle.base.proofs.Bools.{either}
 use Rattle.tables.specs.Words.{rowAt, rowCount}
-use Rattle.tables.specs.Tables.{isParent}
+use Rattle.tables.specs.Tables.{isParent, rowLimit}
 use Rattle.tables.proofs.Accepted.{few-rows}
 use Rattle.parts.specs.Reaching.{Parents, EndsWithin}
 use Rattle.parts.specs.Keeping.{OneDevice}
 use Rattle.parts.proofs.Parentage.{held-le, only-parent}
 
-pub ends-begin : (t ends : List ℕ) → length ends ≡ 1024 → EndsWithin t ends 0
+pub ends-begin : (t ends : List ℕ) → length ends ≡ rowLimit → EndsWithin t ends 0
 ends-begin t ends l = record {
   sized = l;
   behind = λ p h. absurd (omega arith);
@@ -27,7 +27,7 @@ ends-begin t ends l = record {
 }
 
 module _ (t parents : List ℕ) (one : OneDevice t) (has : Parents t parents) (i : ℕ) (h : i < rowCount t) where
-  pub few : i < 1024
+  pub few : i < rowLimit
   few = omega (arith, few-rows t (one .accepted))
 
   pub parent-before : getD parents i 0 ≤ i
@@ -38,7 +38,7 @@ module _ (t parents : List ℕ) (one : OneDevice t) (has : Parents t parents) (i
     next : List ℕ
     next = set (set ends i (i + 1)) (getD parents i 0) (i + 1)
 
-    pub sized-once : length (set ends i (i + 1)) ≡ 1024
+    pub sized-once : length (set ends i (i + 1)) ≡ rowLimit
     sized-once = length-set ends i (i + 1) ∙ s .sized
 
     at-parent : getD next (getD parents i 0) 0 ≡ i + 1

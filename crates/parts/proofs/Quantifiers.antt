@@ -9,7 +9,7 @@ use lib.ListN.{getD}
 use lib.Dec.{eqb}
 use Rattle.base.proofs.Bools.{either, and-left}
 use Rattle.tables.specs.Words.{rowAt, rowCount, rows, entryAt, entryCount}
-use Rattle.tables.specs.Tables.{isParent}
+use Rattle.tables.specs.Tables.{isParent, rowLimit}
 use Rattle.tables.specs.declared.Row.{Row}
 use Rattle.tables.specs.declared.Entry.{Entry}
 use Rattle.tables.proofs.Accepted.{behind, few-rows}
@@ -157,7 +157,7 @@ module _ {rule t : List ℕ} {b : Bindings} {e : ℕ} (ready : ReadyRows rule t 
         )))
         (λ f. f)
 
-    pub place-few : p ≤ 1024
+    pub place-few : p ≤ rowLimit
     place-few = omega (arith, parent-inside, few-rows t (ready .ready .pool-accepted))
 
     -- and no row from their end on is
@@ -168,7 +168,7 @@ module _ {rule t : List ℕ} {b : Bindings} {e : ℕ} (ready : ReadyRows rule t 
       end-inside : getD ends (p - 1) 0 ≤ rowCount t
       end-inside = has-ends .within (p - 1) (omega (arith, parent-inside))
 
-      pub end-few : getD ends (p - 1) 0 ≤ 1024
+      pub end-few : getD ends (p - 1) 0 ≤ rowLimit
       end-few = omega (arith, end-inside, few-rows t (ready .ready .pool-accepted))
 
       none-later : (j : ℕ) → getD ends (p - 1) 0 ≤ j → j < rowCount t → rangesAt t b (entryAt rule e) (rowAt t j) ≡ false

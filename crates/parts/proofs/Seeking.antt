@@ -14,7 +14,7 @@ use Rattle.base.specs.Search.{first}
 use Rattle.base.proofs.Bools.{either, and-both}
 use Rattle.base.proofs.Search.{first-le, none-before, at-first}
 use Rattle.tables.specs.Words.{rowAt, rowCount}
-use Rattle.tables.specs.Tables.{isParent}
+use Rattle.tables.specs.Tables.{isParent, rowLimit}
 use Rattle.tables.specs.declared.Row.{Row}
 use Rattle.tables.proofs.Accepted.{parent-at, strictly}
 use Rattle.parts.specs.Reaching.{parentOf, Holds}
@@ -107,10 +107,10 @@ module _ (t : List ℕ) (one : OneDevice t) (i : ℕ) (h : i < rowCount t) where
 
 -- ---- an array filled row by row
 module _ (f : ℕ → ℕ) where
-  pub fill-begin : (xs : List ℕ) → length xs ≡ 1024 → Holds f xs 0
+  pub fill-begin : (xs : List ℕ) → length xs ≡ rowLimit → Holds f xs 0
   fill-begin xs l = record { sized = l; holds = λ j h. absurd (omega arith) }
 
-  pub fill-more : (xs : List ℕ) (i x : ℕ) → Holds f xs i → i < 1024 → x ≡ f i → Holds f (set xs i x) (i + 1)
+  pub fill-more : (xs : List ℕ) (i x : ℕ) → Holds f xs i → i < rowLimit → x ≡ f i → Holds f (set xs i x) (i + 1)
   fill-more xs i x s l e = record {
     sized = length-set xs i x ∙ s .sized;
     holds = λ j h. ⊎-elim

@@ -12,7 +12,7 @@ use borrow.Author.Tests.{eq-eqb, ne-eqb}
 use Rattle.base.specs.Lists.{put, select, when, all}
 use Rattle.base.specs.Search.{sumBelow}
 use Rattle.base.proofs.Lists.{concatMap-append, select-all}
-use Rattle.tables.specs.Words.{rowAt, rowCount, rowsFrom, rows}
+use Rattle.tables.specs.Words.{rowWords, rowAt, rowCount, rowsFrom, rows}
 use Rattle.tables.specs.Rules.{one}
 use Rattle.tables.specs.declared.Row.{Row}
 use Rattle.tables.proofs.Writes.{sets-append}
@@ -61,8 +61,8 @@ send-nothing t i x e out at = (
 )
 
 module _ (t : List ℕ) (i x : ℕ) (h : x ≡ 0 → ⊥) where
-  pub five-words : length (wordsOf (rowSent t i x)) ≡ 5
-  five-words = ap (λ (D : List Row). length (wordsOf D)) (row-taken t i x h)
+  pub row-words : length (wordsOf (rowSent t i x)) ≡ rowWords
+  row-words = ap (λ (D : List Row). length (wordsOf D)) (row-taken t i x h)
 
   pub row-written : (out : List ℕ) (at : ℕ) (r : Row) → r ≡ rowAt t i
       → set (set (set (set (set out at (r .device)) (at + 1) (r .at)) (at + 2) (r .up)) (at + 3) (r .name)) (at + 4) (r .value) ≡ sets out at (wordsOf (rowSent t i x))

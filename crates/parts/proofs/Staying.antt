@@ -12,7 +12,7 @@ use Rattle.base.proofs.Bools.{either}
 use Rattle.base.proofs.Search.{none-before}
 use Rattle.tables.specs.Words.{rowAt, rowCount, rows}
 use Rattle.tables.specs.Rules.{one, aroundFrom}
-use Rattle.tables.specs.Tables.{root, isParent}
+use Rattle.tables.specs.Tables.{root, isParent, rowLimit}
 use Rattle.tables.specs.declared.Row.{Row}
 use Rattle.tables.proofs.Accepted.{few-rows, has-parent}
 use Rattle.tables.proofs.AcceptedRule.{some-entry}
@@ -52,7 +52,7 @@ module _ {rule t parents kept : List ℕ} {m i : ℕ} (ready : ReadyRow rule t p
   parent-at : getD parents i 0 ≡ parentOf t i
   parent-at = ready .has-parents .holds i (ready .row-inside)
 
-  pub few : rowCount t ≤ 1024
+  pub few : rowCount t ≤ rowLimit
   few = few-rows t (ok .accepted)
 
   pub parents-inside : i < length parents

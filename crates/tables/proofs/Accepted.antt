@@ -1,10 +1,10 @@
 -- What an accepted table tells: whole rows, no fault at any row, rows that rise, parents before, no twins, devices in one piece. Assumes nothing.
-use Prim.Native.Nat.{ℕ, zero, suc, _+_, _-_, _*_, _%_, _≤_, _<_}
+use Prim.Native.Nat.{ℕ, zero, suc, _+_, _-_, _*_, _≤_, _<_}
 use mathlib.Core.Path.{_≡_, refl, sym, ap, _∙_}
 use mathlib.Core.Logic.{⊎-elim}
 use mathlib.Core.Bool.{Bool, true, false, not, _&&_, _||_, true≢false}
 use mathlib.Core.List.{List, [], _∷_, List·Memᴰ·head, List·Memᴰ·tail}
-use native.Mathlib.Nat.{eq-or-lt-of-le, div-add-mod'}
+use native.Mathlib.Nat.{eq-or-lt-of-le}
 use native.Mathlib.Omega.{arith}
 use lib.ListN.{length}
 use lib.Dec.{ltb, leb, eqb}
@@ -14,12 +14,13 @@ use Rattle.base.specs.Search.{first, some}
 use Rattle.base.proofs.Bools.{either, and-left, and-right, or-left, or-right}
 use Rattle.base.proofs.Search.{at-first, none-before, none-at}
 use Rattle.tables.specs.Answers.{inOrder}
-use Rattle.tables.specs.Words.{whole, notIdentifier, notValue, rowWords, rowAt, rowCount}
+use Rattle.tables.specs.Words.{notIdentifier, notValue, rowWords, rowAt, rowCount}
 use Rattle.tables.specs.Tables.{root, isParent, isAbove, isTwin, outOfRange, notAbove, noParent, hasTwin, rowFault, rowLimit, tableLength, checkTable, acceptedTable}
 use Rattle.tables.specs.Devices.{fromDevice}
 use Rattle.tables.specs.declared.Answer.the-variants.{Done}
 use Rattle.tables.specs.declared.Row.{Row}
 use Rattle.tables.proofs.Answers.{unless-ok, unless-next, unless-passed, no-fault, in-order-passed}
+use Rattle.tables.proofs.Whole.{whole-lines, table-whole, table-few}
 
 -- the numbers of the checks of rows, in their order
 abbrev checks : List ℕ
@@ -49,12 +50,10 @@ module _ (t : List ℕ) where
 
     -- the words are those of whole rows
     pub whole-rows : length t ≡ rowWords * rowCount t
-    whole-rows =
-        let e : length t % 5 ≡ 0 = eqb-true (length t % 5) 0 (and-left (whole rowWords t) (leb (rowCount t) rowLimit) length-ok) in
-        omega (arith, div-add-mod' (length t) 5)
+    whole-rows = whole-lines rowWords t (table-whole t length-ok)
 
     pub few-rows : rowCount t ≤ rowLimit
-    few-rows = leb-true (rowCount t) rowLimit (and-right (whole rowWords t) (leb (rowCount t) rowLimit) length-ok)
+    few-rows = table-few t length-ok
 
     -- no row has a fault of any number
     pub faultless : (k : ℕ) → k ∈ checks → (i : ℕ) → i < rowCount t → rowFault t k i ≡ false

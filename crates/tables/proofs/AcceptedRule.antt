@@ -1,24 +1,25 @@
 -- What an accepted rule tells of its entries: kinds, children later and named once, nesting, variables bound. Assumes nothing.
-use Prim.Native.Nat.{ℕ, zero, suc, _+_, _*_, _%_, _≤_, _<_}
+use Prim.Native.Nat.{ℕ, zero, suc, _+_, _*_, _≤_, _<_}
 use mathlib.Core.Path.{_≡_, refl, ap, _∙_}
 use mathlib.Core.Logic.{⊎-elim}
 use mathlib.Core.Bool.{Bool, true, false, _&&_, _||_, false≢true}
 use mathlib.Core.List.{List, [], _∷_, List·Memᴰ·head, List·Memᴰ·tail}
-use native.Mathlib.Nat.{eq-or-lt-of-le, div-add-mod'}
+use native.Mathlib.Nat.{eq-or-lt-of-le}
 use native.Mathlib.Omega.{arith}
 use lib.ListN.{length}
 use lib.Dec.{ltb, leb, eqb}
-use borrow.Author.Tests.{lt-ltb, ltb-false, leb-true, leb-false, eqb-true, eq-eqb, le-leb, lt-leb, not-false}
+use borrow.Author.Tests.{lt-ltb, ltb-false, leb-false, eqb-true, eq-eqb, le-leb, lt-leb, not-false}
 use Rattle.base.specs.Lists.{_∈_}
 use Rattle.base.specs.Search.{sumBelow}
-use Rattle.base.proofs.Bools.{either, and-left, and-right, and-both, or-left, or-right}
+use Rattle.base.proofs.Bools.{either, and-both, or-left, or-right}
 use Rattle.tables.specs.Answers.{number, unless, inOrder}
-use Rattle.tables.specs.Words.{whole, entryWords, entryAt, entryCount}
-use Rattle.tables.specs.Rules.{nestingLimit, isQuantifier, isConnective, isComparison, hasChild, one, namings, isChild, timesNamed, aroundFrom, around, unknownKind, badPlace, badChild, badNaming, tooDeep, unbound, entryFault, ruleLength, checkRule, acceptedRule}
+use Rattle.tables.specs.Words.{entryWords, entryAt, entryCount}
+use Rattle.tables.specs.Rules.{nestingLimit, isQuantifier, isConnective, isComparison, hasChild, one, namings, isChild, timesNamed, aroundFrom, around, unknownKind, badPlace, badChild, badNaming, tooDeep, unbound, entryFault, entryLimit, ruleLength, checkRule, acceptedRule}
 use Rattle.tables.specs.declared.Entry.{Entry}
 use Rattle.tables.specs.declared.Answer.{Answer}
 use Rattle.tables.specs.declared.Answer.the-variants.{Refused}
 use Rattle.tables.proofs.Answers.{unless-ok, unless-next, no-fault, FirstAtFault, first-at-fault}
+use Rattle.tables.proofs.Whole.{whole-lines, rule-whole, rule-some, rule-few}
 
 -- the numbers of the checks of entries, in their order
 abbrev checks : List ℕ
@@ -67,20 +68,15 @@ module _ (r : List ℕ) (ok : acceptedRule r ≡ true) where
   unfolding checkRule
   length-ok = unless-ok (ruleLength r) 1 (inOrder (entryFault r) (entryCount r) checks) ok
 
-  size-ok : (leb 1 (entryCount r) && leb (entryCount r) 128) ≡ true
-  size-ok = and-right (whole entryWords r) _ length-ok
-
   -- the words are those of whole entries, of which there is one
   pub whole-entries : length r ≡ entryWords * entryCount r
-  whole-entries =
-      let e : length r % 4 ≡ 0 = eqb-true (length r % 4) 0 (and-left (whole entryWords r) (leb 1 (entryCount r) && leb (entryCount r) 128) length-ok) in
-      omega (arith, div-add-mod' (length r) 4)
+  whole-entries = whole-lines entryWords r (rule-whole r length-ok)
 
   pub some-entry : 0 < entryCount r
-  some-entry = leb-true 1 (entryCount r) (and-left (leb 1 (entryCount r)) (leb (entryCount r) 128) size-ok)
+  some-entry = rule-some r length-ok
 
-  pub few-entries : entryCount r ≤ 128
-  few-entries = leb-true (entryCount r) 128 (and-right (leb 1 (entryCount r)) (leb (entryCount r) 128) size-ok)
+  pub few-entries : entryCount r ≤ entryLimit
+  few-entries = rule-few r length-ok
 
   faultless : (k : ℕ) → k ∈ checks → (i : ℕ) → i < entryCount r → entryFault r k i ≡ false
   unfolding checkRule

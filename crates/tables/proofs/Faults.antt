@@ -1,16 +1,15 @@
 -- Each number's fault of an entry, and the refusals in their order. Assumes nothing.
-use Prim.Native.Nat.{ℕ, zero, suc, _+_, _-_, _%_, _≤_, _<_}
+use Prim.Native.Nat.{ℕ, zero, suc, _+_, _-_, _≤_, _<_}
 use mathlib.Core.Path.{_≡_, sym, ap, fun-ext, _∙_}
 use mathlib.Core.Bool.{Bool, true, false, not, _&&_}
 use mathlib.Core.List.{List, [], _∷_, _++_, append-nil}
 use native.Mathlib.Numerals.{add-one}
 use native.Mathlib.Omega.{arith}
 use lib.Dec.{eqb, ltb, leb}
-use lib.ListN.{length}
-use borrow.Author.Tests.{ne-eqb, eqb-true, eqb-false, lt-ltb, le-ltb, leb-true}
+use borrow.Author.Tests.{ne-eqb, eqb-false, lt-ltb, le-ltb}
 use Rattle.base.specs.Search.{sumBelow, first}
-use Rattle.base.proofs.Bools.{either, and-left, and-right}
-use Rattle.tables.specs.Words.{entryAt, entryCount, entryWords, rowAt, rowCount, rowWords, whole}
+use Rattle.base.proofs.Bools.{either}
+use Rattle.tables.specs.Words.{entryAt, entryCount, rowAt, rowCount}
 use Rattle.tables.specs.Rules.{nestingLimit, unknownKind, badWord, badChild, unbound, isQuantifier, namings, around, entryFault, ruleLength, checkRule}
 use Rattle.tables.specs.Answers.{unlessAny, inOrder}
 use Rattle.tables.specs.Tables.{outOfRange, isAbove, rowFault, tableLength, checkTable}
@@ -89,13 +88,6 @@ module _ (r : List ℕ) where
   unfolding checkRule upFrom
   rule-begin e = record { low = omega arith; high = omega arith; rest = simp e }
 
-  pub rule-short : ruleLength r ≡ true → entryCount r ≤ 128
-  rule-short e =
-      let w : Bool = whole entryWords r in
-      let a : Bool = leb 1 (entryCount r) in
-      let b : Bool = leb (entryCount r) 128 in
-      leb-true (entryCount r) 128 (and-right a b (and-right w (a && b) e))
-
 -- ---- a table's length
 module _ (t : List ℕ) where
   pub table-length : tableLength t ≡ false → Refused 8 0 ≡ checkTable t
@@ -105,12 +97,6 @@ module _ (t : List ℕ) where
   pub table-begin : tableLength t ≡ true → Tested (checkTable t) (rowFault t) (rowCount t) 9 13 9
   unfolding checkTable upFrom
   table-begin e = record { low = omega arith; high = omega arith; rest = simp e }
-
-  pub table-whole : tableLength t ≡ true → (rowCount t ≤ 1024) × (length t % 5 ≡ 0)
-  table-whole e =
-      let w : Bool = whole rowWords t in
-      let b : Bool = leb (rowCount t) 1024 in
-      (leb-true (rowCount t) 1024 (and-right w b e), eqb-true (length t % 5) 0 (and-left w b e))
 
 -- ---- each number's fault of a row
 module _ (t : List ℕ) (k i : ℕ) (r : Row) (r-is : r ≡ rowAt t i) where

@@ -1,5 +1,5 @@
 -- What joining answers at each way out. Assumes nothing.
-use Prim.Native.Nat.{ℕ, _+_, _-_, _/_, _%_, _≤_, _<_}
+use Prim.Native.Nat.{ℕ, _+_, _-_, _*_, _/_, _%_, _≤_, _<_}
 use mathlib.Core.Path.{_≡_, sym, ap, _∙_}
 use mathlib.Core.Bool.{Bool, true, false}
 use mathlib.Core.List.{List, _++_}
@@ -10,8 +10,8 @@ use lib.Seq.{sets, sets-eq, length-take-le}
 use borrow.Author.Tests.{eq-eqb, ne-eqb, lt-ltb, le-ltb, le-leb, lt-leb, leb-true}
 use Rattle.base.specs.Search.{first}
 use Rattle.tables.specs.Answers.{isDone, unless, unlessAny}
-use Rattle.tables.specs.Words.{rowAt, rowCount}
-use Rattle.tables.specs.Tables.{rowFault, tableLength, checkTable, acceptedTable}
+use Rattle.tables.specs.Words.{rowWords, rowAt, rowCount}
+use Rattle.tables.specs.Tables.{rowLimit, rowFault, tableLength, checkTable, acceptedTable}
 use Rattle.tables.specs.Chains.{linkFault}
 use Rattle.tables.specs.Joining.{follows, joinTables, joinAnswer, joinPool}
 use Rattle.tables.specs.declared.Row.{Row}
@@ -38,10 +38,10 @@ done : (t : List ℕ) (n : ℕ) → checkTable t ≡ Done n → acceptedTable t 
 done t n e = ap isDone e
 
 module _ (t : List ℕ) (n : ℕ) (e : checkTable t ≡ Done n) where
-  pub short : length t ≤ 5120
+  pub short : length t ≤ rowLimit * rowWords
   short = omega (arith, few-rows t (done t n e), whole-rows t (done t n e))
 
-  pub rows-whole : length t % 5 ≡ 0
+  pub rows-whole : length t % rowWords ≡ 0
   rows-whole = omega (arith, whole-rows t (done t n e))
 
 module _ (s t : List ℕ) (room : ℕ) where
@@ -73,15 +73,15 @@ module _ (s t : List ℕ) (room : ℕ) where
         passed-16 : joinTables s t room ≡ after-16
         passed-16 = begun ∙ ap (λ (b : Bool). unless b 16 after-16) f-true
 
-        both-whole : length (s ++ t) % 5 ≡ 0
+        both-whole : length (s ++ t) % rowWords ≡ 0
         both-whole = omega (arith, length-append s t, rows-whole s m em, rows-whole t n en)
 
-        pub refused-8 : 1024 < (length s + length t) / 5 → Refused 8 0 ≡ joinTables s t room
+        pub refused-8 : rowLimit < (length s + length t) / rowWords → Refused 8 0 ≡ joinTables s t room
         refused-8 h =
             let l : length (s ++ t) ≡ length s + length t = length-append s t in
-            sym (passed-16 ∙ simp (eq-eqb (length (s ++ t) % 5) 0 both-whole, lt-leb (rowCount (s ++ t)) 1024 (rw l h)))
+            sym (passed-16 ∙ simp (eq-eqb (length (s ++ t) % rowWords) 0 both-whole, lt-leb (rowCount (s ++ t)) rowLimit (rw l h)))
 
-        module _ (few : (length s + length t) / 5 ≤ 1024) where
+        module _ (few : (length s + length t) / rowWords ≤ rowLimit) where
           abbrev after-8 : Answer
           after-8 =
               unlessAny (rowFault (s ++ t) 12) 12 (rowCount (s ++ t))
@@ -91,20 +91,20 @@ module _ (s t : List ℕ) (room : ℕ) where
           passed-8 : joinTables s t room ≡ after-8
           passed-8 =
               let l : length (s ++ t) ≡ length s + length t = length-append s t in
-              passed-16 ∙ simp (eq-eqb (length (s ++ t) % 5) 0 both-whole, le-leb (rowCount (s ++ t)) 1024 (rw l few))
+              passed-16 ∙ simp (eq-eqb (length (s ++ t) % rowWords) 0 both-whole, le-leb (rowCount (s ++ t)) rowLimit (rw l few))
 
-          module _ (i : ℕ) (i-is : i ≡ first (linkFault 12 (s ++ t)) ((length s + length t) / 5)) where
+          module _ (i : ℕ) (i-is : i ≡ first (linkFault 12 (s ++ t)) ((length s + length t) / rowWords)) where
             place-is : i ≡ first (rowFault (s ++ t) 12) (rowCount (s ++ t))
             unfolding linkFault rowFault
-            place-is = i-is ∙ ap (λ (n : ℕ). first (linkFault 12 (s ++ t)) (n / 5)) (sym (length-append s t))
+            place-is = i-is ∙ ap (λ (n : ℕ). first (linkFault 12 (s ++ t)) (n / rowWords)) (sym (length-append s t))
 
-            count-is : (length s + length t) / 5 ≡ rowCount (s ++ t)
-            count-is = ap (λ (n : ℕ). n / 5) (sym (length-append s t))
+            count-is : (length s + length t) / rowWords ≡ rowCount (s ++ t)
+            count-is = ap (λ (n : ℕ). n / rowWords) (sym (length-append s t))
 
-            pub refused-12 : i < (length s + length t) / 5 → Refused 12 i ≡ joinTables s t room
+            pub refused-12 : i < (length s + length t) / rowWords → Refused 12 i ≡ joinTables s t room
             refused-12 h = sym (passed-8 ∙ rw (← place-is, lt-ltb i (rowCount (s ++ t)) (rw count-is at h)))
 
-            module _ (none : (length s + length t) / 5 ≤ i) where
+            module _ (none : (length s + length t) / rowWords ≤ i) where
               passed-12 : joinTables s t room ≡ unless (leb (length (s ++ t)) room) 17 (Done (length (s ++ t)))
               passed-12 = passed-8 ∙ rw (← place-is, le-ltb i (rowCount (s ++ t)) (rw count-is at none))
 

@@ -1,5 +1,6 @@
 pub mod Words
 pub mod Answers
+pub mod Whole
 pub mod Accepted
 pub mod Nesting
 pub mod Faults

@@ -14,9 +14,9 @@ use Rattle.base.specs.Search.{first, some}
 use Rattle.base.proofs.Bools.{either, and-left, and-right}
 use Rattle.base.proofs.Search.{Passed, begin, hit, miss, at-first, none-at, some-at, some-none}
 use Rattle.tables.specs.Words.{rowAt}
-use Rattle.tables.specs.Tables.{root, isTwin, isParent}
+use Rattle.tables.specs.Tables.{root, isTwin, isParent, rowLimit}
 use Rattle.tables.specs.declared.Row.{Row}
-use Rattle.tables.specs.Chains.{lastOf, matchOf, faultOf, linkFault, hashOf, twinHash, ownHash, soughtHash, hashAt, Linked, Heads}
+use Rattle.tables.specs.Chains.{lastOf, matchOf, faultOf, linkFault, hashes, hashOf, twinHash, ownHash, soughtHash, hashAt, Linked, Heads}
 
 -- ---- the last number at which a test holds
 module _ (p : ℕ → Bool) where
@@ -105,7 +105,7 @@ module _ (hash : ℕ → ℕ) (p : ℕ → Bool) (h i : ℕ) (agrees : (j : ℕ)
   seek-end k s z = sym (some-none p i (λ j l. s .passed j (omega arith) l))
 
 -- ---- one row more
-module _ (hash : ℕ → ℕ) (i k : ℕ) (k-is : k ≡ lastOf (λ m. eqb (hash m) (hash i)) i) (room : i < 1024) where
+module _ (hash : ℕ → ℕ) (i k : ℕ) (k-is : k ≡ lastOf (λ m. eqb (hash m) (hash i)) i) (room : i < rowLimit) where
   pub linked-more : (next : List ℕ) → Linked hash next i → Linked hash (set next i k) (i + 1)
   linked-more next l = record { long = length-set next i k ∙ l .long; fits = omega arith; links = links }
     where
@@ -115,16 +115,16 @@ module _ (hash : ℕ → ℕ) (i k : ℕ) (k-is : k ≡ lastOf (λ m. eqb (hash 
         | no n ↦ let q : j ≡ i = omega arith in rw q (getD-set-same next i k 0 (omega (arith, l .long)) ∙ k-is)
       ]
 
-  pub heads-more : (head : List ℕ) (h : ℕ) → h ≡ hash i → h < 1024 → Heads hash head i → Heads hash (set head h (i + 1)) (i + 1)
+  pub heads-more : (head : List ℕ) (h : ℕ) → h ≡ hash i → h < hashes → Heads hash head i → Heads hash (set head h (i + 1)) (i + 1)
   unfolding lastOf
   heads-more head h h-is b s = record { long = length-set head h (i + 1) ∙ s .long; lasts = lasts }
     where
-      lasts : (x : ℕ) → x < 1024 → getD (set head h (i + 1)) x 0 ≡ lastOf (λ m. eqb (hash m) x) (i + 1)
+      lasts : (x : ℕ) → x < hashes → getD (set head h (i + 1)) x 0 ≡ lastOf (λ m. eqb (hash m) x) (i + 1)
       lasts x l = either (eqb (hash i) x)
           (λ e. let q : x ≡ h = sym (h-is ∙ eqb-true _ _ e) in rw (add-one i, e, q) (getD-set-same head h (suc i) 0 (omega (arith, s .long))))
           (λ e. rw (add-one i, e) (getD-set-other head h x (suc i) 0 (λ y. absurd (true≢false (sym (eq-eqb _ _ (sym h-is ∙ sym y)) ∙ e))) ∙ s .lasts x l))
 
-pub head-le : (hash : ℕ → ℕ) (head : List ℕ) (i : ℕ) → Heads hash head i → (h : ℕ) → h < 1024 → getD head h 0 ≤ i
+pub head-le : (hash : ℕ → ℕ) (head : List ℕ) (i : ℕ) → Heads hash head i → (h : ℕ) → h < hashes → getD head h 0 ≤ i
 head-le hash head i s h l = omega (arith, s .lasts h l, last-le (λ m. eqb (hash m) h) i)
 
 -- ---- nothing yet
@@ -133,11 +133,11 @@ getD-same z zero j = refl
 getD-same z (suc n) zero = refl
 getD-same z (suc n) (suc j) = getD-same z n j
 
-pub heads-none : (hash : ℕ → ℕ) → Heads hash (replicate 1024 0) 0
+pub heads-none : (hash : ℕ → ℕ) → Heads hash (replicate hashes 0) 0
 unfolding lastOf
-heads-none hash = record { long = refl; lasts = λ h l. getD-same 0 1024 h }
+heads-none hash = record { long = refl; lasts = λ h l. getD-same 0 hashes h }
 
-pub linked-none : (hash : ℕ → ℕ) → Linked hash (replicate 1024 0) 0
+pub linked-none : (hash : ℕ → ℕ) → Linked hash (replicate rowLimit 0) 0
 linked-none hash = record { long = refl; fits = omega arith; links = λ j l. absurd (omega arith) }
 
 -- ---- the outer loop: i rows passed without the fault, all of them linked
@@ -147,14 +147,14 @@ pub record Looking (hash : ℕ → ℕ) (fault : ℕ → Bool) (n : ℕ) (head n
   pub heads : Heads hash head i
 
 module _ (hash : ℕ → ℕ) (fault : ℕ → Bool) (n : ℕ) where
-  pub look-begin : Looking hash fault n (replicate 1024 0) (replicate 1024 0) 0
+  pub look-begin : Looking hash fault n (replicate hashes 0) (replicate rowLimit 0) 0
   look-begin = record { passed = begin fault n; linked = linked-none hash; heads = heads-none hash }
 
   module _ (head next : List ℕ) (i : ℕ) (look : Looking hash fault n head next i) (l : i < n) (b : Bool) (b-is : b ≡ fault i) where
     pub look-hit : b ≡ true → i ≡ first fault n
     look-hit e = hit fault n i (look .passed) l (sym b-is ∙ e)
 
-    pub look-more : b ≡ false → n ≤ 1024 → (h : ℕ) → h ≡ hash i → h < 1024 → Looking hash fault n (set head h (i + 1)) (set next i (getD head h 0)) (i + 1)
+    pub look-more : b ≡ false → n ≤ rowLimit → (h : ℕ) → h ≡ hash i → h < hashes → Looking hash fault n (set head h (i + 1)) (set next i (getD head h 0)) (i + 1)
     look-more e small h h-is below =
         let k-is : getD head h 0 ≡ lastOf (λ m. eqb (hash m) (hash i)) i = look .heads .lasts h below ∙ ap (λ (x : ℕ). lastOf (λ m. eqb (hash m) x) i) h-is in
         record {
@@ -164,27 +164,27 @@ module _ (hash : ℕ → ℕ) (fault : ℕ → Bool) (n : ℕ) where
         }
 
 -- ---- the hashes of both checks
-hash-below : (d a n v : ℕ) → hashOf d a n v < 1024
+hash-below : (d a n v : ℕ) → hashOf d a n v < hashes
 unfolding hashOf
 hash-below d a n v = omega arith
 
-twin-below : (r : Row) → twinHash r < 1024
+twin-below : (r : Row) → twinHash r < hashes
 unfolding twinHash
 twin-below r = hash-below _ _ _ _
 
-pub own-below : (k : ℕ) (r : Row) → ownHash k r < 1024
+pub own-below : (k : ℕ) (r : Row) → ownHash k r < hashes
 unfolding ownHash
 own-below k r = go (eqb k 11)
   where
-    go : (z : Bool) → cond z (hashOf (r .device) (r .at) 0 0) (twinHash r) < 1024
+    go : (z : Bool) → cond z (hashOf (r .device) (r .at) 0 0) (twinHash r) < hashes
     go true = hash-below _ _ _ _
     go false = twin-below r
 
-pub sought-below : (k : ℕ) (r : Row) → soughtHash k r < 1024
+pub sought-below : (k : ℕ) (r : Row) → soughtHash k r < hashes
 unfolding soughtHash
 sought-below k r = go (eqb k 11)
   where
-    go : (z : Bool) → cond z (hashOf (r .device) (r .up) 0 0) (twinHash r) < 1024
+    go : (z : Bool) → cond z (hashOf (r .device) (r .up) 0 0) (twinHash r) < hashes
     go true = hash-below _ _ _ _
     go false = twin-below r
 
@@ -227,7 +227,7 @@ match-hash k r b e = go (eqb k 11) e
 module _ (k : ℕ) (t : List ℕ) (i : ℕ) (r : Row) (r-is : r ≡ rowAt t i) where
   pub sought-last : (h : ℕ) → h ≡ soughtHash k r → (head : List ℕ) → Heads (hashAt k t) head i → getD head h 0 ≡ lastOf (λ m. eqb (hashAt k t m) (soughtHash k r)) i
   sought-last h h-is head s =
-      let b : soughtHash k r < 1024 = sought-below k r in
+      let b : soughtHash k r < hashes = sought-below k r in
       s .lasts h (omega arith) ∙ ap (λ (x : ℕ). lastOf (λ m. eqb (hashAt k t m) x) i) h-is
 
   pub own-is : (h : ℕ) → h ≡ ownHash k r → h ≡ hashAt k t i

@@ -7,7 +7,7 @@ use native.Mathlib.Omega.{arith}
 use lib.Dec.{leb}
 use borrow.Author.Tests.{lt-ltb, le-ltb}
 use Rattle.base.proofs.Search.{first-le}
-use Rattle.tables.specs.Words.{rowAt, rowCount}
+use Rattle.tables.specs.Words.{rowWords, rowAt, rowCount}
 use Rattle.tables.specs.Tables.{acceptedTable}
 use Rattle.tables.specs.Devices.{fromDevice, hasDevice, deviceStart, deviceEnd}
 use Rattle.tables.specs.Spans.{IsSpan}
@@ -25,7 +25,7 @@ module _ (t : List ℕ) (d e a b : ℕ) (e-is : e ≡ d) (ea : a ≡ fromDevice 
   pub b-le : b ≤ rowCount t
   b-le = rw b-is (first-le (λ i. leb (d + 1) (rowAt t i .device)) (rowCount t))
 
-  pub some-rows : acceptedTable t ≡ true → a < b → IsSpan t d (5 * a) (5 * b)
+  pub some-rows : acceptedTable t ≡ true → a < b → IsSpan t d (rowWords * a) (rowWords * b)
   unfolding hasDevice deviceStart deviceEnd
   some-rows f h =
       let w : b ≤ rowCount t = b-le in

@@ -52,12 +52,12 @@ from-split t i (suc m) n =
     let f : suc i + m ≡ i + suc m = omega arith in
     ap (rowsFrom t i) e ∙ ap (_∷_ (rowAt t i)) (from-split t (suc i) m n ∙ ap (λ (k : ℕ). rowsFrom t (suc i) m ++ rowsFrom t k n) f)
 
-from-left : (s t : List ℕ) (i n : ℕ) → 5 * (i + n) ≤ length s → rowsFrom (s ++ t) i n ≡ rowsFrom s i n
+from-left : (s t : List ℕ) (i n : ℕ) → rowWords * (i + n) ≤ length s → rowsFrom (s ++ t) i n ≡ rowsFrom s i n
 unfolding rowsFrom
 from-left s t i zero h = refl
 from-left s t i (suc n) h = ap₂ _∷_ (row-left s t i (omega arith)) (from-left s t (suc i) n (omega arith))
 
-from-right : (s t : List ℕ) (k i n : ℕ) → length s ≡ 5 * k → rowsFrom (s ++ t) (k + i) n ≡ rowsFrom t i n
+from-right : (s t : List ℕ) (k i n : ℕ) → length s ≡ rowWords * k → rowsFrom (s ++ t) (k + i) n ≡ rowsFrom t i n
 unfolding rowsFrom
 from-right s t k i zero h = refl
 from-right s t k i (suc n) h =

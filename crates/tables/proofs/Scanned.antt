@@ -11,7 +11,7 @@ use borrow.Author.Tests.{eqb-true, ltb-true, ne-eqb}
 use Rattle.base.specs.Search.{first, some}
 use Rattle.base.proofs.Bools.{either, and-left, and-right, and-both, or-first, or-second}
 use Rattle.base.proofs.Search.{Passed, none, at-first, none-at, some-at, some-none}
-use Rattle.tables.specs.Words.{rowAt}
+use Rattle.tables.specs.Words.{rowWords, rowAt}
 use Rattle.tables.specs.Tables.{root, isTwin}
 use Rattle.tables.specs.declared.Row.{Row}
 use Rattle.tables.specs.Chains.{matchOf, isLike}
@@ -65,17 +65,17 @@ some-right p q m n h f s = either (some q (n - m))
 
 -- ---- the rows of s, then those of t
 module _ (k : ℕ) (r : Row) (s t : List ℕ) where
-  pub in-first : (n : ℕ) → 5 * n ≤ length s → some (λ j. matchOf k r (rowAt s j)) n ≡ some (λ j. matchOf k r (rowAt (s ++ t) j)) n
+  pub in-first : (n : ℕ) → rowWords * n ≤ length s → some (λ j. matchOf k r (rowAt s j)) n ≡ some (λ j. matchOf k r (rowAt (s ++ t) j)) n
   in-first n h = some-same (λ j. matchOf k r (rowAt s j)) (λ j. matchOf k r (rowAt (s ++ t) j)) n
       (λ j l. ap (matchOf k r) (sym (row-left s t j (omega arith))))
 
-  module _ (n m : ℕ) (m-is : m ≡ length s / 5) (whole : length s % 5 ≡ 0) (more : m ≤ n) where
+  module _ (n m : ℕ) (m-is : m ≡ length s / rowWords) (whole : length s % rowWords ≡ 0) (more : m ≤ n) where
     pub found-first : some (λ j. matchOf k r (rowAt s j)) m ≡ true → true ≡ some (λ j. matchOf k r (rowAt (s ++ t) j)) n
     found-first e = some-left (λ j. matchOf k r (rowAt (s ++ t) j)) m n more (sym (in-first m (omega arith)) ∙ e)
 
     pub in-second : some (λ j. matchOf k r (rowAt s j)) m ≡ false → some (λ j. matchOf k r (rowAt t j)) (n - m) ≡ some (λ j. matchOf k r (rowAt (s ++ t) j)) n
     in-second e = some-right (λ j. matchOf k r (rowAt (s ++ t) j)) (λ j. matchOf k r (rowAt t j)) m n more (sym (in-first m (omega arith)) ∙ e)
-        (λ j l. let q : (m + j) - length s / 5 ≡ j = omega arith in
+        (λ j l. let q : (m + j) - length s / rowWords ≡ j = omega arith in
         ap (matchOf k r) (sym (row-past s t (m + j) whole (omega arith) ∙ ap (rowAt t) q)))
 
 -- ---- tests that rule a row out

@@ -33,7 +33,11 @@ isLike r b = eqb (b .name) (r .name) && eqb (b .value) (r .value)
 unfoldable pub linkFault : ℕ → List ℕ → ℕ → Bool
 linkFault k t i = cond (eqb k 11) (noParent t i) (hasTwin t i)
 
--- below 1,024
+-- a hash is below this
+abbrev pub hashes : ℕ
+hashes = 1024
+
+-- below `hashes`
 unfoldable pub hashOf : ℕ → ℕ → ℕ → ℕ → ℕ
 hashOf d a n v = (d * 947282241 + a * 1870821409 + n * 669926575 + v * 700227275) % 4294967296 / 4194304
 
@@ -60,5 +64,5 @@ pub record Linked (hash : ℕ → ℕ) (next : List ℕ) (i : ℕ) : Type 0 wher
 
 -- head has for each hash one more than the last of the first i rows with it
 pub record Heads (hash : ℕ → ℕ) (head : List ℕ) (i : ℕ) : Type 0 where
-  pub long : length head ≡ 1024
-  pub lasts : (h : ℕ) → h < 1024 → getD head h 0 ≡ lastOf (λ m. eqb (hash m) h) i
+  pub long : length head ≡ hashes
+  pub lasts : (h : ℕ) → h < hashes → getD head h 0 ≡ lastOf (λ m. eqb (hash m) h) i

@@ -4,7 +4,7 @@ ghost use mathlib.Core.Path.{_≡_};
 ghost use Prim.Native.Nat.{_+_, _*_, _≤_, _<_};
 ghost use lib.ListN.{length};
 ghost use Rattle.base.specs.Search.{sumBelow};
-ghost use Rattle.tables.specs.Words.{entryAt};
+ghost use Rattle.tables.specs.Words.{entryWords, entryAt};
 ghost use Rattle.tables.specs.Rules.{unknownKind, badWord, badChild, unbound, isQuantifier, isChild, namings, around, one, entryLimit};
 
 // The words of an entry, in the entry's order.
@@ -19,7 +19,7 @@ pub const B: usize = 2;
 pub const C: usize = 3;
 
 pub(crate) fn entry_at(rule: &[u32], i: usize) -> Entry
-    requires { ⌜ 4 * i + 4 ≤ length (now rule) ⌝ }
+    requires { ⌜ entryWords * i + entryWords ≤ length (now rule) ⌝ }
     ensures { λ r. ⌜ r ≡ entryAt (now (rule .entry)) i ⌝ }
 {
     Entry {
@@ -113,7 +113,7 @@ fn namings_of(e: Entry, j: usize) -> usize
 
 // How many child places of the n entries name j.
 pub(crate) fn times_named(rule: &[u32], n: usize, j: usize) -> usize
-    requires { ⌜ (4 * n ≤ length (now rule)) × (n ≤ entryLimit) ⌝ }
+    requires { ⌜ (entryWords * n ≤ length (now rule)) × (n ≤ entryLimit) ⌝ }
     ensures { λ o. ⌜ o ≡ sumBelow (λ i. namings (entryAt (now (rule .entry)) i) j) n ⌝ }
 {
     let mut sum = 0;
@@ -127,7 +127,7 @@ pub(crate) fn times_named(rule: &[u32], n: usize, j: usize) -> usize
 
 // The number of quantifiers around entry j: its parent is looked for among the entries below it, then the parent's parent.
 pub(crate) fn quantifiers_around(rule: &[u32], j: usize) -> usize
-    requires { ⌜ 4 * j ≤ length (now rule) ⌝ }
+    requires { ⌜ entryWords * j ≤ length (now rule) ⌝ }
     ensures { λ o. ⌜ o ≡ around (now (rule .entry)) j ⌝ }
     ensures { λ o. ⌜ o ≤ j ⌝ }
 {

@@ -2,6 +2,7 @@
 use Prim.Native.Nat.{_-_}
 use native.Mathlib.Omega.{arith}
 use Rattle.base.proofs.Sums.{Summed, sum-begin, sum-more, sum-end}
+use Rattle.tables.specs.Tables.{rowLimit}
 use Rattle.logic.specs.Formulas.{formula}
 use Rattle.checker.specs.Report.{countAt, partsCount}
 use Rattle.tables.proofs.Accepted.{few-rows}
@@ -10,7 +11,7 @@ use Rattle.checker.proofs.counting.parts_count.Tie as tie
 
 pub parts-count-spec : {M : Type 1} → statement M
 parts-count-spec = tie.close (tie.spec
-    (λ rule pool mode n sum₀ i₀ sum i. Summed (countAt (formula rule) mode pool) 1024 n i sum)
+    (λ rule pool mode n sum₀ i₀ sum i. Summed (countAt (formula rule) mode pool) rowLimit n i sum)
     (λ rule pool mode n sum₀ i₀ sum i. n - i)
     (λ c. sum-begin _ _ _)
     (λ c κs. let p = c .before .before .before .before .pre in (p .0, p .1, p .2, p .3, omega (arith, c .loop-test .taken)))

@@ -3,9 +3,10 @@ use Prim.Native.Nat.{_-_}
 use native.Mathlib.Omega.{arith}
 use denote.Ref.{now}
 use borrow.Author.Tests.{not-true, not-false}
-use Rattle.tables.specs.Words.{rowCount}
+use Rattle.tables.specs.Words.{rowWords, rowCount}
 use Rattle.tables.specs.Tables.{rowFault, checkTable}
-use Rattle.tables.proofs.Faults.{Tested, table-whole, table-length, table-begin, test-hit, test-more, test-end}
+use Rattle.tables.proofs.Whole.{no-rest, table-whole, table-few}
+use Rattle.tables.proofs.Faults.{Tested, table-length, table-begin, test-hit, test-more, test-end}
 use Rattle.tables.proofs.tables.check_table.Statement.{statement}
 use Rattle.tables.proofs.tables.check_table.Tie as tie
 
@@ -15,7 +16,7 @@ check-table-spec = tie.close (tie.spec
     (λ table n whole number₀ number. 13 - number)
     (λ c. table-length _ (not-true _ (c .if1 .taken)))
     (λ c. table-begin _ (not-false _ (c .if1 .left)))
-    (λ c κs. let w = table-whole (now (c .before .before .before .before .args .table)) (not-false _ (c .before .before .if1 .left)) in (omega arith, w .0, w .1, c .before .loop .inv .low))
+    (λ c κs. let t = now (c .before .before .before .before .args .table) in let ok = not-false _ (c .before .before .if1 .left) in (omega arith, table-few t ok, no-rest rowWords t (table-whole t ok), c .before .loop .inv .low))
     (λ c. test-hit _ _ _ _ _ _ (c .before .before .before .loop .inv) _ (c .before .first-row-fault .ensures) (c .before .before .loop-test .taken) (c .if2 .taken))
     (λ c. omega (arith, c .before .before .loop-test .taken))
     (λ c. omega (arith, c .before .before .loop-test .taken))
