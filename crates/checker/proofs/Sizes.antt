@@ -13,8 +13,8 @@ use Rattle.base.proofs.Bools.{and-left, and-right}
 use Rattle.base.proofs.Search.{first-le}
 use Rattle.tables.specs.Answers.{number, place, andThen, unless, inOrder}
 use Rattle.tables.specs.Words.{entryWords, rowWords, entryCount, rowCount, rows}
-use Rattle.tables.specs.Rules.{one, ruleLength, entryFault, checkRule}
-use Rattle.tables.specs.Tables.{rowLimit, tableLength, rowFault, checkTable}
+use Rattle.tables.specs.Rules.{one, ruleLength, entryFault, ruleChecks, checkRule}
+use Rattle.tables.specs.Tables.{rowLimit, tableLength, rowFault, tableChecks, checkTable}
 use Rattle.tables.specs.Files.{ruleNames, poolNames, stepOf, scanAll, atStart, startsWith, atLine, atEnd, lines, readWords, checkFile}
 use Rattle.tables.specs.declared.Answer.{Answer}
 use Rattle.tables.specs.declared.Answer.the-variants.{Done, Refused}
@@ -55,13 +55,13 @@ unfolding checkRule
 small-rule r = small-unless rowLimit (ruleLength r) 1 _ (omega arith)
     (λ e. small-wider (entryCount r) rowLimit _
     (omega (arith, rule-few r e))
-    (small-order (entryFault r) (entryCount r) (2 ∷ 3 ∷ 4 ∷ 5 ∷ 6 ∷ 7 ∷ []) refl))
+    (small-order (entryFault r) (entryCount r) ruleChecks refl))
 
 small-table : (t : List ℕ) → Small rowLimit (checkTable t)
 unfolding checkTable
 small-table t = small-unless rowLimit (tableLength t) 8 _ (omega arith)
     (λ e. small-wider (rowCount t) rowLimit _ (table-few t e)
-    (small-order (rowFault t) (rowCount t) (9 ∷ 10 ∷ 11 ∷ 12 ∷ []) refl))
+    (small-order (rowFault t) (rowCount t) tableChecks refl))
 
 -- a line more takes a byte
 line-le : (k : ℕ) (s : Scan) (bs : List ℕ) → scanAll k s bs .line ≤ s .line + length bs

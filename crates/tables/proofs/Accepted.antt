@@ -3,7 +3,7 @@ use Prim.Native.Nat.{ℕ, zero, suc, _+_, _-_, _*_, _≤_, _<_}
 use mathlib.Core.Path.{_≡_, refl, sym, ap, _∙_}
 use mathlib.Core.Logic.{⊎-elim}
 use mathlib.Core.Bool.{Bool, true, false, not, _&&_, _||_, true≢false}
-use mathlib.Core.List.{List, [], _∷_, List·Memᴰ·head, List·Memᴰ·tail}
+use mathlib.Core.List.{List}
 use native.Mathlib.Nat.{eq-or-lt-of-le}
 use native.Mathlib.Omega.{arith}
 use lib.ListN.{length}
@@ -15,16 +15,12 @@ use Rattle.base.proofs.Bools.{either, and-left, and-right, or-left, or-right}
 use Rattle.base.proofs.Search.{at-first, none-before, none-at}
 use Rattle.tables.specs.Answers.{inOrder}
 use Rattle.tables.specs.Words.{notIdentifier, notValue, rowWords, rowAt, rowCount}
-use Rattle.tables.specs.Tables.{root, isParent, isAbove, isTwin, outOfRange, notAbove, noParent, hasTwin, rowFault, rowLimit, tableLength, checkTable, acceptedTable}
+use Rattle.tables.specs.Tables.{root, isParent, isAbove, isTwin, outOfRange, notAbove, noParent, hasTwin, rowFault, rowLimit, tableLength, tableChecks, checkTable, acceptedTable}
 use Rattle.tables.specs.Devices.{fromDevice}
 use Rattle.tables.specs.declared.Answer.the-variants.{Done}
 use Rattle.tables.specs.declared.Row.{Row}
-use Rattle.tables.proofs.Answers.{unless-ok, unless-next, unless-passed, no-fault, in-order-passed}
+use Rattle.tables.proofs.Answers.{unless-ok, unless-next, unless-passed, listed, no-fault, in-order-passed}
 use Rattle.tables.proofs.Whole.{whole-lines, table-whole, table-few}
-
--- the numbers of the checks of rows, in their order
-abbrev checks : List ℕ
-checks = 9 ∷ 10 ∷ 11 ∷ 12 ∷ []
 
 identifier : (x : ℕ) → notIdentifier x ≡ false → (1 ≤ x) × (x ≤ 65535)
 identifier x e =
@@ -39,14 +35,14 @@ parent-at r p e = eqb-true (p .at) (r .up) (and-right (eqb (p .device) (r .devic
 
 module _ (t : List ℕ) where
   -- a table without faults is accepted
-  pub accept : tableLength t ≡ true → ((k : ℕ) → k ∈ checks → (i : ℕ) → i < rowCount t → rowFault t k i ≡ false) → checkTable t ≡ Done (rowCount t)
+  pub accept : tableLength t ≡ true → ((k : ℕ) → k ∈ tableChecks → (i : ℕ) → i < rowCount t → rowFault t k i ≡ false) → checkTable t ≡ Done (rowCount t)
   unfolding checkTable
-  accept l h = unless-passed (tableLength t) 8 (inOrder (rowFault t) (rowCount t) checks) l ∙ in-order-passed (rowFault t) (rowCount t) checks h
+  accept l h = unless-passed (tableLength t) 8 (inOrder (rowFault t) (rowCount t) tableChecks) l ∙ in-order-passed (rowFault t) (rowCount t) tableChecks h
 
   module _ (ok : acceptedTable t ≡ true) where
     pub length-ok : tableLength t ≡ true
     unfolding checkTable
-    length-ok = unless-ok (tableLength t) 8 (inOrder (rowFault t) (rowCount t) checks) ok
+    length-ok = unless-ok (tableLength t) 8 (inOrder (rowFault t) (rowCount t) tableChecks) ok
 
     -- the words are those of whole rows
     pub whole-rows : length t ≡ rowWords * rowCount t
@@ -56,28 +52,28 @@ module _ (t : List ℕ) where
     few-rows = table-few t length-ok
 
     -- no row has a fault of any number
-    pub faultless : (k : ℕ) → k ∈ checks → (i : ℕ) → i < rowCount t → rowFault t k i ≡ false
+    pub faultless : (k : ℕ) → k ∈ tableChecks → (i : ℕ) → i < rowCount t → rowFault t k i ≡ false
     unfolding checkTable
-    faultless = no-fault (rowFault t) (rowCount t) checks (unless-next (tableLength t) 8 (inOrder (rowFault t) (rowCount t) checks) ok)
+    faultless = no-fault (rowFault t) (rowCount t) tableChecks (unless-next (tableLength t) 8 (inOrder (rowFault t) (rowCount t) tableChecks) ok)
 
     pub answered : checkTable t ≡ Done (rowCount t)
     answered = accept length-ok faultless
 
     pub no-9 : (i : ℕ) → i < rowCount t → outOfRange (rowAt t i) ≡ false
     unfolding rowFault
-    no-9 = faultless 9 (List·Memᴰ·head refl)
+    no-9 = faultless 9 (listed tableChecks 9 refl)
 
     pub no-10 : (i : ℕ) → i < rowCount t → notAbove t i ≡ false
     unfolding rowFault
-    no-10 = faultless 10 (List·Memᴰ·tail (List·Memᴰ·head refl))
+    no-10 = faultless 10 (listed tableChecks 10 refl)
 
     pub no-11 : (i : ℕ) → i < rowCount t → noParent t i ≡ false
     unfolding rowFault
-    no-11 = faultless 11 (List·Memᴰ·tail (List·Memᴰ·tail (List·Memᴰ·head refl)))
+    no-11 = faultless 11 (listed tableChecks 11 refl)
 
     pub no-12 : (i : ℕ) → i < rowCount t → hasTwin t i ≡ false
     unfolding rowFault
-    no-12 = faultless 12 (List·Memᴰ·tail (List·Memᴰ·tail (List·Memᴰ·tail (List·Memᴰ·head refl))))
+    no-12 = faultless 12 (listed tableChecks 12 refl)
 
     -- ---- ranges
     module _ (i : ℕ) (h : i < rowCount t) where

@@ -3,7 +3,7 @@ use Prim.Native.Nat.{ℕ, zero, suc, _+_, _*_, _≤_, _<_}
 use mathlib.Core.Path.{_≡_, refl, ap, _∙_}
 use mathlib.Core.Logic.{⊎-elim}
 use mathlib.Core.Bool.{Bool, true, false, _&&_, _||_, false≢true}
-use mathlib.Core.List.{List, [], _∷_, List·Memᴰ·head, List·Memᴰ·tail}
+use mathlib.Core.List.{List}
 use native.Mathlib.Nat.{eq-or-lt-of-le}
 use native.Mathlib.Omega.{arith}
 use lib.ListN.{length}
@@ -14,16 +14,12 @@ use Rattle.base.specs.Search.{sumBelow}
 use Rattle.base.proofs.Bools.{either, and-both, or-left, or-right}
 use Rattle.tables.specs.Answers.{number, unless, inOrder}
 use Rattle.tables.specs.Words.{entryWords, entryAt, entryCount}
-use Rattle.tables.specs.Rules.{nestingLimit, isQuantifier, isConnective, isComparison, hasChild, one, namings, isChild, timesNamed, aroundFrom, around, unknownKind, badPlace, badChild, badNaming, tooDeep, unbound, entryFault, entryLimit, ruleLength, checkRule, acceptedRule}
+use Rattle.tables.specs.Rules.{nestingLimit, isQuantifier, isConnective, isComparison, hasChild, one, namings, isChild, timesNamed, aroundFrom, around, unknownKind, badPlace, badChild, badNaming, tooDeep, unbound, entryFault, entryLimit, ruleLength, ruleChecks, checkRule, acceptedRule}
 use Rattle.tables.specs.declared.Entry.{Entry}
 use Rattle.tables.specs.declared.Answer.{Answer}
 use Rattle.tables.specs.declared.Answer.the-variants.{Refused}
-use Rattle.tables.proofs.Answers.{unless-ok, unless-next, no-fault, FirstAtFault, first-at-fault}
+use Rattle.tables.proofs.Answers.{unless-ok, unless-next, listed, no-fault, FirstAtFault, first-at-fault}
 use Rattle.tables.proofs.Whole.{whole-lines, rule-whole, rule-some, rule-few}
-
--- the numbers of the checks of entries, in their order
-abbrev checks : List ℕ
-checks = 2 ∷ 3 ∷ 4 ∷ 5 ∷ 6 ∷ 7 ∷ []
 
 -- ---- a sum holds each of its terms
 term-le : (f : ℕ → ℕ) (n i : ℕ) → i < n → f i ≤ sumBelow f n
@@ -66,7 +62,7 @@ module _ (e : Entry) where
 module _ (r : List ℕ) (ok : acceptedRule r ≡ true) where
   length-ok : ruleLength r ≡ true
   unfolding checkRule
-  length-ok = unless-ok (ruleLength r) 1 (inOrder (entryFault r) (entryCount r) checks) ok
+  length-ok = unless-ok (ruleLength r) 1 (inOrder (entryFault r) (entryCount r) ruleChecks) ok
 
   -- the words are those of whole entries, of which there is one
   pub whole-entries : length r ≡ entryWords * entryCount r
@@ -78,15 +74,15 @@ module _ (r : List ℕ) (ok : acceptedRule r ≡ true) where
   pub few-entries : entryCount r ≤ entryLimit
   few-entries = rule-few r length-ok
 
-  faultless : (k : ℕ) → k ∈ checks → (i : ℕ) → i < entryCount r → entryFault r k i ≡ false
+  faultless : (k : ℕ) → k ∈ ruleChecks → (i : ℕ) → i < entryCount r → entryFault r k i ≡ false
   unfolding checkRule
-  faultless = no-fault (entryFault r) (entryCount r) checks (unless-next (ruleLength r) 1 (inOrder (entryFault r) (entryCount r) checks) ok)
+  faultless = no-fault (entryFault r) (entryCount r) ruleChecks (unless-next (ruleLength r) 1 (inOrder (entryFault r) (entryCount r) ruleChecks) ok)
 
   -- each entry but 0 is named once
   pub named-once : (j : ℕ) → 0 < j → j < entryCount r → timesNamed r j ≡ 1
   unfolding entryFault
   named-once j p h =
-      let e : badNaming r j ≡ false = faultless 5 (List·Memᴰ·tail (List·Memᴰ·tail (List·Memᴰ·tail (List·Memᴰ·head refl)))) j h in
+      let e : badNaming r j ≡ false = faultless 5 (listed ruleChecks 5 refl) j h in
       eqb-true (timesNamed r j) 1 (not-false _ (rw (lt-ltb 0 j p) at e))
 
   pub one-parent : (i k j : ℕ) → i < k → k < entryCount r → 0 < j → j < entryCount r → isChild (entryAt r i) j ≡ true → isChild (entryAt r k) j ≡ true → ⊥
@@ -117,12 +113,12 @@ module _ (r : List ℕ) (ok : acceptedRule r ≡ true) where
     pub kind-range : (1 ≤ entryAt r i .kind) × (entryAt r i .kind ≤ 9)
     unfolding entryFault
     kind-range =
-        let e : unknownKind (entryAt r i) ≡ false = faultless 2 (List·Memᴰ·head refl) i h in
+        let e : unknownKind (entryAt r i) ≡ false = faultless 2 (listed ruleChecks 2 refl) i h in
         (ltb-false (entryAt r i .kind) 1 (or-left (ltb (entryAt r i .kind) 1) (ltb 9 (entryAt r i .kind)) e), ltb-false 9 (entryAt r i .kind) (or-right (ltb (entryAt r i .kind) 1) (ltb 9 (entryAt r i .kind)) e))
 
     children-ok : badChild (entryCount r) i (entryAt r i) ≡ false
     unfolding entryFault
-    children-ok = faultless 4 (List·Memᴰ·tail (List·Memᴰ·tail (List·Memᴰ·head refl))) i h
+    children-ok = faultless 4 (listed ruleChecks 4 refl) i h
 
     later : (j : ℕ) → badPlace (entryCount r) i j ≡ false → (i < j) × (j < entryCount r)
     later j e = (leb-false j i (or-left (leb j i) (leb (entryCount r) j) e), leb-false (entryCount r) j (or-right (leb j i) (leb (entryCount r) j) e))
@@ -161,7 +157,7 @@ module _ (r : List ℕ) (ok : acceptedRule r ≡ true) where
 
     unbound-ok : unbound (around r i) (entryAt r i) ≡ false
     unfolding entryFault
-    unbound-ok = faultless 7 (List·Memᴰ·tail (List·Memᴰ·tail (List·Memᴰ·tail (List·Memᴰ·tail (List·Memᴰ·tail (List·Memᴰ·head refl)))))) i h
+    unbound-ok = faultless 7 (listed ruleChecks 7 refl) i h
 
     -- a quantifier binds one of the variables in its body, and its parent's variable is bound
     module _ (high : 5 ≤ entryAt r i .kind) (low : entryAt r i .kind ≤ 6) where
@@ -171,7 +167,7 @@ module _ (r : List ℕ) (ok : acceptedRule r ≡ true) where
       pub nesting : around r i < nestingLimit
       unfolding entryFault
       nesting =
-          let e : tooDeep r i ≡ false = faultless 6 (List·Memᴰ·tail (List·Memᴰ·tail (List·Memᴰ·tail (List·Memᴰ·tail (List·Memᴰ·head refl))))) i h in
+          let e : tooDeep r i ≡ false = faultless 6 (listed ruleChecks 6 refl) i h in
           leb-false nestingLimit (around r i) (clear (entryAt r i) (isQuantifier (entryAt r i)) _ e (is-quantifier (entryAt r i) high low))
 
       pub over-bound : entryAt r i .b ≤ around r i
@@ -197,7 +193,7 @@ module _ (r : List ℕ) (ok : acceptedRule r ≡ true) where
 -- ---- a refused rule: but for 1, the place is the first entry with the fault of that number
 pub refused-rule : (r : List ℕ) (k p : ℕ) → 1 < k → checkRule r ≡ Refused k p → FirstAtFault (entryFault r) k p
 unfolding checkRule
-refused-rule r k p h e = first-at-fault (entryFault r) (entryCount r) k p checks (past-length (ruleLength r) _ e)
+refused-rule r k p h e = first-at-fault (entryFault r) (entryCount r) k p ruleChecks (past-length (ruleLength r) _ e)
   where
     past-length : (ok : Bool) (next : Answer) → unless ok 1 next ≡ Refused k p → next ≡ Refused k p
     past-length true next q = q

@@ -1,12 +1,14 @@
 -- What an accepted answer tells of the checks before it, and when checks are passed. Assumes nothing.
 use Prim.Native.Nat.{ℕ, _<_}
-use mathlib.Core.Path.{_≡_, refl, ap, subst}
+use mathlib.Core.Path.{_≡_, refl, sym, ap, subst}
 use mathlib.Core.Bool.{Bool, true, false, cond, true≢false, false≢true}
 use mathlib.Core.List.{List, [], _∷_, List·Memᴰ·head, List·Memᴰ·tail}
-use borrow.Author.Tests.{ltb-true}
-use Rattle.base.specs.Lists.{_∈_}
+use lib.Dec.{eqb}
+use borrow.Author.Tests.{eqb-true, ltb-true}
+use Rattle.base.specs.Lists.{_∈_, any}
 use Rattle.base.specs.Search.{first, some}
 use Rattle.base.proofs.Bools.{either}
+use Rattle.base.proofs.Lists.{any-at}
 use Rattle.base.proofs.Search.{some-none, none-at, none-before, at-first}
 use Rattle.tables.specs.Answers.{number, place, isDone, andThen, unless, unlessAny, inOrder}
 use Rattle.tables.specs.declared.Answer.{Answer}
@@ -50,6 +52,10 @@ module _ (fault : ℕ → Bool) (k n : ℕ) (next : Answer) where
 
   pub unlessAny-passed : ((i : ℕ) → i < n → fault i ≡ false) → unlessAny fault k n next ≡ next
   unlessAny-passed h = rw (some-none fault n h)
+
+-- a number is one of the checks, by a test that computes
+pub listed : (ks : List ℕ) (k : ℕ) → any (eqb k) ks ≡ true → k ∈ ks
+listed ks k e = let w = any-at (eqb k) ks e in subst (λ (x : ℕ). x ∈ ks) (sym (eqb-true k (w .0) (w .2))) (w .1)
 
 -- ---- checks in order: where they end accepted, no place has a fault of any of their numbers, and the other way round
 module _ (fault : ℕ → ℕ → Bool) (n : ℕ) where

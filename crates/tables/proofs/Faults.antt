@@ -1,18 +1,20 @@
 -- Each number's fault of an entry, and the refusals in their order. Assumes nothing.
-use Prim.Native.Nat.{ℕ, zero, suc, _+_, _-_, _≤_, _<_}
+use Prim.Native.Nat.{ℕ, _+_, _-_, _≤_, _<_}
 use mathlib.Core.Path.{_≡_, sym, ap, fun-ext, _∙_}
-use mathlib.Core.Bool.{Bool, true, false, not, _&&_}
+use mathlib.Core.Bool.{Bool, true, false, not, _&&_, _||_}
 use mathlib.Core.List.{List, [], _∷_, _++_, append-nil}
 use native.Mathlib.Numerals.{add-one}
 use native.Mathlib.Omega.{arith}
 use lib.Dec.{eqb, ltb, leb}
-use borrow.Author.Tests.{ne-eqb, eqb-false, lt-ltb, le-ltb}
+use lib.ListN.{length, getD, drop, drop-of-length-le}
+use lib.Seq.{drop-cons}
+use borrow.Author.Tests.{ne-eqb, lt-ltb, le-ltb}
 use Rattle.base.specs.Search.{sumBelow, first}
-use Rattle.base.proofs.Bools.{either}
+use Rattle.base.proofs.Bools.{either, or-left, or-right}
 use Rattle.tables.specs.Words.{entryAt, entryCount, rowAt, rowCount}
-use Rattle.tables.specs.Rules.{nestingLimit, unknownKind, badWord, badChild, unbound, isQuantifier, namings, around, entryFault, ruleLength, checkRule}
+use Rattle.tables.specs.Rules.{nestingLimit, unknownKind, badWord, badChild, unbound, isQuantifier, namings, around, entryFault, ruleLength, ruleChecks, checkRule}
 use Rattle.tables.specs.Answers.{unlessAny, inOrder}
-use Rattle.tables.specs.Tables.{outOfRange, isAbove, rowFault, tableLength, checkTable}
+use Rattle.tables.specs.Tables.{outOfRange, isAbove, rowFault, tableLength, tableChecks, checkTable}
 use Rattle.tables.specs.Chains.{plainFault, linkFault}
 use Rattle.tables.specs.declared.Entry.{Entry}
 use Rattle.tables.specs.declared.Row.{Row}
@@ -50,33 +52,26 @@ module _ (r : List ℕ) (k i : ℕ) (e : Entry) (e-is : e ≡ entryAt r i) where
         h ∙ ap (λ (x : Entry). unbound d x) e-is ∙ ap (λ (m : ℕ). unbound m (entryAt r i)) d-is
         ∙ rw (ne-eqb k 2 n2, ne-eqb k 3 n3, ne-eqb k 4 n4, ne-eqb k 5 n5, ne-eqb k 6 n6)
 
--- ---- the loop over the numbers of a run of checks: the answer is that of the numbers left
-pub upFrom : ℕ → ℕ → List ℕ
-upFrom k zero = []
-upFrom k (suc m) = k ∷ upFrom (suc k) m
+-- ---- the loop over a list of checks: the answer is that of the checks left
+pub record Tested (answer : Answer) (fault : ℕ → ℕ → Bool) (n : ℕ) (checks : List ℕ) (k : ℕ) : Type 0 where
+  pub rest : answer ≡ inOrder fault n (drop k checks)
 
-pub record Tested (answer : Answer) (fault : ℕ → ℕ → Bool) (n start end k : ℕ) : Type 0 where
-  pub low : start ≤ k
-  pub high : k ≤ end
-  pub rest : answer ≡ inOrder fault n (upFrom k (end - k))
+module _ {answer : Answer} {fault : ℕ → ℕ → Bool} {n : ℕ} {checks : List ℕ} {k : ℕ} (s : Tested answer fault n checks k) where
+  module _ (l : k < length checks) {i : ℕ} (i-is : i ≡ first (fault (getD checks k 0)) n) where
+    split : drop k checks ≡ getD checks k 0 ∷ drop (k + 1) checks
+    split = rw (add-one, drop-cons checks k 0 l)
 
-module _ (answer : Answer) (fault : ℕ → ℕ → Bool) (n start end k : ℕ) (s : Tested answer fault n start end k) where
-  module _ (i : ℕ) (i-is : i ≡ first (fault k) n) (l : k < end) where
-    next : answer ≡ unlessAny (fault k) k n (inOrder fault n (upFrom (k + 1) (end - (k + 1))))
-    unfolding upFrom
-    next =
-        let e : end - k ≡ suc (end - (k + 1)) = omega arith in
-        s .rest ∙ ap (λ (m : ℕ). inOrder fault n (upFrom k m)) e ∙ rw (← add-one k)
+    next : answer ≡ unlessAny (fault (getD checks k 0)) (getD checks k 0) n (inOrder fault n (drop (k + 1) checks))
+    next = s .rest ∙ ap (inOrder fault n) split
 
-    pub test-hit : i < n → Refused k i ≡ answer
+    pub test-hit : i < n → Refused (getD checks k 0) i ≡ answer
     test-hit h = sym (next ∙ rw (← i-is, lt-ltb i n h))
 
-    pub test-more : n ≤ i → Tested answer fault n start end (k + 1)
-    test-more h = record { low = omega (arith, s .low); high = omega arith; rest = next ∙ rw (← i-is, le-ltb i n h) }
+    pub test-more : n ≤ i → Tested answer fault n checks (k + 1)
+    test-more h = record { rest = next ∙ rw (← i-is, le-ltb i n h) }
 
-  pub test-end : end ≤ k → Done n ≡ answer
-  unfolding upFrom
-  test-end h = let a : k ≤ end = s .high in let e : end - k ≡ 0 = omega arith in sym (s .rest ∙ rw e)
+  pub test-end : length checks ≤ k → Done n ≡ answer
+  test-end h = sym (s .rest ∙ rw (drop-of-length-le checks h))
 
 -- ---- a rule's length
 module _ (r : List ℕ) where
@@ -84,9 +79,9 @@ module _ (r : List ℕ) where
   unfolding checkRule
   rule-length e = simp e
 
-  pub rule-begin : ruleLength r ≡ true → Tested (checkRule r) (entryFault r) (entryCount r) 2 8 2
-  unfolding checkRule upFrom
-  rule-begin e = record { low = omega arith; high = omega arith; rest = simp e }
+  pub rule-begin : ruleLength r ≡ true → Tested (checkRule r) (entryFault r) (entryCount r) ruleChecks 0
+  unfolding checkRule
+  rule-begin e = record { rest = simp e }
 
 -- ---- a table's length
 module _ (t : List ℕ) where
@@ -94,9 +89,9 @@ module _ (t : List ℕ) where
   unfolding checkTable
   table-length e = simp e
 
-  pub table-begin : tableLength t ≡ true → Tested (checkTable t) (rowFault t) (rowCount t) 9 13 9
-  unfolding checkTable upFrom
-  table-begin e = record { low = omega arith; high = omega arith; rest = simp e }
+  pub table-begin : tableLength t ≡ true → Tested (checkTable t) (rowFault t) (rowCount t) tableChecks 0
+  unfolding checkTable
+  table-begin e = record { rest = simp e }
 
 -- ---- each number's fault of a row
 module _ (t : List ℕ) (k i : ℕ) (r : Row) (r-is : r ≡ rowAt t i) where
@@ -116,20 +111,18 @@ module _ (t : List ℕ) (k i : ℕ) (r : Row) (r-is : r ≡ rowAt t i) where
       ∙ sym (rw (ne-eqb k 9 n, lt-ltb 0 i l))
 
 module _ (t : List ℕ) (k : ℕ) where
-  plain-at : k < 11 → 9 ≤ k → (i : ℕ) → plainFault k t i ≡ rowFault t k i
+  plain-at : (eqb k 9 || eqb k 10) ≡ true → (i : ℕ) → plainFault k t i ≡ rowFault t k i
   unfolding plainFault rowFault
-  plain-at l h i = either (eqb k 9)
-      (λ e. rw e)
-      (λ e. let z : k ≡ 9 → ⊥ = eqb-false k 9 e in let w : k ≡ 10 = omega arith in rw w)
+  plain-at h i = either (eqb k 9) (λ e. rw e) (λ e. let z : eqb k 10 ≡ true = (rw e at h) in rw (e, z))
 
-  link-at : 11 ≤ k → (i : ℕ) → linkFault k t i ≡ rowFault t k i
+  link-at : (eqb k 9 || eqb k 10) ≡ false → (i : ℕ) → linkFault k t i ≡ rowFault t k i
   unfolding linkFault rowFault
-  link-at h i = rw (ne-eqb k 9 (λ e. omega arith), ne-eqb k 10 (λ e. omega arith))
+  link-at h i = rw (or-left (eqb k 9) (eqb k 10) h, or-right (eqb k 9) (eqb k 10) h)
 
-  pub plain-first-is : (n m : ℕ) → k < 11 → 9 ≤ k → m ≡ first (plainFault k t) n → m ≡ first (rowFault t k) n
-  plain-first-is n m l h e = e ∙ ap (λ (p : ℕ → Bool). first p n) (fun-ext (plain-at l h))
+  pub plain-first-is : (n m : ℕ) → (eqb k 9 || eqb k 10) ≡ true → m ≡ first (plainFault k t) n → m ≡ first (rowFault t k) n
+  plain-first-is n m h e = e ∙ ap (λ (p : ℕ → Bool). first p n) (fun-ext (plain-at h))
 
-  pub link-first-is : (u : List ℕ) (n m : ℕ) → u ≡ [] → 11 ≤ k → m ≡ first (linkFault k (t ++ u)) n → m ≡ first (rowFault t k) n
+  pub link-first-is : (u : List ℕ) (n m : ℕ) → u ≡ [] → (eqb k 9 || eqb k 10) ≡ false → m ≡ first (linkFault k (t ++ u)) n → m ≡ first (rowFault t k) n
   link-first-is u n m u-is h e =
       e ∙ ap (λ (x : List ℕ). first (linkFault k (t ++ x)) n) u-is ∙ ap (λ (x : List ℕ). first (linkFault k x) n) (append-nil t)
       ∙ ap (λ (p : ℕ → Bool). first p n) (fun-ext (link-at h))

@@ -154,7 +154,8 @@ module _ (hash : ℕ → ℕ) (fault : ℕ → Bool) (n : ℕ) where
     pub look-hit : b ≡ true → i ≡ first fault n
     look-hit e = hit fault n i (look .passed) l (sym b-is ∙ e)
 
-    pub look-more : b ≡ false → n ≤ rowLimit → (h : ℕ) → h ≡ hash i → h < hashes → Looking hash fault n (set head h (i + 1)) (set next i (getD head h 0)) (i + 1)
+    pub look-more : b ≡ false → n ≤ rowLimit → (h : ℕ) → h ≡ hash i → h < hashes
+        → Looking hash fault n (set head h (i + 1)) (set next i (getD head h 0)) (i + 1)
     look-more e small h h-is below =
         let k-is : getD head h 0 ≡ lastOf (λ m. eqb (hash m) (hash i)) i = look .heads .lasts h below ∙ ap (λ (x : ℕ). lastOf (λ m. eqb (hash m) x) i) h-is in
         record {

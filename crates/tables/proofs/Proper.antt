@@ -14,7 +14,7 @@ use Rattle.base.proofs.Lists.{select-in, select-out}
 use Rattle.base.proofs.Search.{some-at, some-none}
 use Rattle.tables.specs.Answers.{isDone}
 use Rattle.tables.specs.Words.{notIdentifier, notValue, rowAt, rowCount, rowsFrom, rows}
-use Rattle.tables.specs.Tables.{root, isParent, isAbove, isTwin, outOfRange, notAbove, noParent, rowFault, tableLength, acceptedTable}
+use Rattle.tables.specs.Tables.{root, isParent, isAbove, isTwin, outOfRange, notAbove, noParent, rowFault, tableLength, tableChecks, acceptedTable}
 use Rattle.tables.specs.declared.Row.{Row}
 use Rattle.tables.proofs.Accepted.{accept, no-9, no-twin, has-parent, rises, strictly, parent-at, parent-device}
 use Rattle.tables.proofs.RowLists.{from-in, from-out, row-in, row-out}
@@ -195,7 +195,7 @@ module _ (t : List ℕ) (short : tableLength t ≡ true) (ok : Proper (rows t)) 
       let l : j .0 < i = before t above-at (j .0) i (j .1) (subst (λ (z : Row). Above z (rowAt t i)) (j .2) (w .3)) in
       rw (e, some-at (λ k. isParent (rowAt t i) (rowAt t k)) i (j .0) l (subst (λ (z : Row). isParent (rowAt t i) z ≡ true) (j .2) (w .2))))
 
-  faultless : (k : ℕ) → k ∈ (9 ∷ 10 ∷ 11 ∷ 12 ∷ []) → (i : ℕ) → i < rowCount t → rowFault t k i ≡ false
+  faultless : (k : ℕ) → k ∈ tableChecks → (i : ℕ) → i < rowCount t → rowFault t k i ≡ false
   unfolding rowFault
   faultless k (List·Memᴰ·head e) i h = rw e (ok .ranged (rowAt t i) (row-in t i h))
   faultless k (List·Memᴰ·tail (List·Memᴰ·head e)) i h = rw e (ordered i h)

@@ -2,15 +2,15 @@
 use Prim.Native.Nat.{ℕ, _≤_, _<_}
 use mathlib.Core.Path.{_≡_, ap, _∙_}
 use mathlib.Core.Bool.{true}
-use mathlib.Core.List.{List, [], _∷_}
+use mathlib.Core.List.{List}
 use native.Mathlib.Omega.{arith}
 use lib.ListN.{length}
 use Rattle.tables.specs.declared.Answer.{Answer}
 use Rattle.tables.specs.declared.Answer.the-variants.{Done}
 use Rattle.tables.specs.Answers.{isDone, inOrder}
 use Rattle.tables.specs.Words.{whole, entryWords, entryCount, rowWords, rowCount}
-use Rattle.tables.specs.Rules.{checkRule, entryFault, ruleLength}
-use Rattle.tables.specs.Tables.{checkTable, rowFault, tableLength}
+use Rattle.tables.specs.Rules.{checkRule, entryFault, ruleLength, ruleChecks}
+use Rattle.tables.specs.Tables.{checkTable, rowFault, tableLength, tableChecks}
 use Rattle.tables.specs.Files.{ruleNames, poolNames, writeText, readWords, checkFile}
 use Rattle.tables.specs.Trips.{fileIn, tableIn, TablesReturn, FilesReturn, RoundTrips}
 use Rattle.tables.proofs.Answers.{unless-ok, andThen-first, andThen-next}
@@ -47,11 +47,11 @@ module _ (names : List ℕ) (k : ℕ) (check : List ℕ → Answer) where
 
 rule-lines : (r : List ℕ) → isDone (checkRule r) ≡ true → whole entryWords r ≡ true
 unfolding checkRule
-rule-lines r ok = rule-whole r (unless-ok (ruleLength r) 1 (inOrder (entryFault r) (entryCount r) (2 ∷ 3 ∷ 4 ∷ 5 ∷ 6 ∷ 7 ∷ [])) ok)
+rule-lines r ok = rule-whole r (unless-ok (ruleLength r) 1 (inOrder (entryFault r) (entryCount r) ruleChecks) ok)
 
 table-lines : (t : List ℕ) → isDone (checkTable t) ≡ true → whole rowWords t ≡ true
 unfolding checkTable
-table-lines t ok = table-whole t (unless-ok (tableLength t) 8 (inOrder (rowFault t) (rowCount t) (9 ∷ 10 ∷ 11 ∷ 12 ∷ [])) ok)
+table-lines t ok = table-whole t (unless-ok (tableLength t) 8 (inOrder (rowFault t) (rowCount t) tableChecks) ok)
 
 pub round-trips : RoundTrips
 round-trips = record {

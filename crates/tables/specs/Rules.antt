@@ -109,9 +109,13 @@ entryLimit = 128
 abbrev pub ruleLength : List ℕ → Bool
 ruleLength r = whole entryWords r && (leb 1 (entryCount r) && leb (entryCount r) entryLimit)
 
+-- the checks of entries, in the order in which they are made
+abbrev pub ruleChecks : List ℕ
+ruleChecks = 2 ∷ 3 ∷ 4 ∷ 5 ∷ 6 ∷ 7 ∷ []
+
 -- the answer of the rule checks: the number of entries, or the first refusal
 unfoldable pub checkRule : List ℕ → Answer
-checkRule r = unless (ruleLength r) 1 (inOrder (entryFault r) (entryCount r) (2 ∷ 3 ∷ 4 ∷ 5 ∷ 6 ∷ 7 ∷ []))
+checkRule r = unless (ruleLength r) 1 (inOrder (entryFault r) (entryCount r) ruleChecks)
 
 -- a rule is accepted if its checks find no fault
 abbrev pub acceptedRule : List ℕ → Bool

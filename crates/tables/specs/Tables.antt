@@ -58,9 +58,13 @@ rowLimit = 1024
 abbrev pub tableLength : List ℕ → Bool
 tableLength t = whole rowWords t && leb (rowCount t) rowLimit
 
+-- the checks of rows, in the order in which they are made
+abbrev pub tableChecks : List ℕ
+tableChecks = 9 ∷ 10 ∷ 11 ∷ 12 ∷ []
+
 -- the answer of the table checks: the number of rows, or the first refusal
 unfoldable pub checkTable : List ℕ → Answer
-checkTable t = unless (tableLength t) 8 (inOrder (rowFault t) (rowCount t) (9 ∷ 10 ∷ 11 ∷ 12 ∷ []))
+checkTable t = unless (tableLength t) 8 (inOrder (rowFault t) (rowCount t) tableChecks)
 
 -- a table is accepted if its own checks find no fault
 abbrev pub acceptedTable : List ℕ → Bool

@@ -24,6 +24,9 @@ pub const RULE_WORDS: usize = ENTRY_LIMIT * ENTRY_WORDS;
 // So many quantifiers stand around one another at most.
 pub const NESTING_LIMIT: usize = 6;
 
+// The checks of entries, in the order in which they are made.
+const RULE_CHECKS: [u32; 6] = [2, 3, 4, 5, 6, 7];
+
 // Whether entry i of n has the fault of that number.
 fn entry_fault(rule: &[u32], n: usize, number: u32, i: usize) -> bool
     requires { ⌜ (n ≡ entryCount (now rule)) × (n ≤ entryLimit) × (i < n) ⌝ }
@@ -78,13 +81,14 @@ pub fn check_rule(rule: &[u32]) -> Answer
             place: 0,
         };
     }
-    let mut number = 2;
-    while number < 8 {
+    let mut k = 0;
+    while k < RULE_CHECKS.len() {
+        let number = RULE_CHECKS[k];
         let i = first_entry_fault(rule, n, number);
         if i < n {
             return Answer::Refused { number, place: i };
         }
-        number += 1;
+        k += 1;
     }
     Answer::Done(n)
 }

@@ -18,6 +18,9 @@ pub const ROW_LIMIT: usize = 1024;
 // A buffer of so many words has room for any table.
 pub const TABLE_WORDS: usize = ROW_LIMIT * ROW_WORDS;
 
+// The checks of rows, in the order in which they are made.
+const TABLE_CHECKS: [u32; 4] = [9, 10, 11, 12];
+
 // Whether row i has fault 9 or 10.
 fn plain_fault(t: &[u32], number: u32, i: usize) -> bool
     requires { ⌜ rowWords * i + rowWords ≤ length (now t) ⌝ }
@@ -48,12 +51,12 @@ fn first_plain(t: &[u32], n: usize, number: u32) -> usize
     n
 }
 
-// The first of n rows that has the fault of that number, 9 to 12, or n where none has.
+// The first of n rows that has the fault of that number, or n where none has.
 fn first_row_fault(t: &[u32], n: usize, number: u32) -> usize
-    requires { ⌜ (rowWords * n ≤ length (now t)) × (n ≤ rowLimit) × (length (now t) % rowWords ≡ 0) × (9 ≤ number) ⌝ }
+    requires { ⌜ (rowWords * n ≤ length (now t)) × (n ≤ rowLimit) × (length (now t) % rowWords ≡ 0) ⌝ }
     ensures { λ o. ⌜ o ≡ first (rowFault (now (t .entry)) number) n ⌝ }
 {
-    if number < 11 {
+    if (number == 9) | (number == 10) {
         return first_plain(t, n, number);
     }
     first_linked(t, &t[0..0], n, number)
@@ -71,13 +74,14 @@ pub fn check_table(table: &[u32]) -> Answer
             place: 0,
         };
     }
-    let mut number = 9;
-    while number < 13 {
+    let mut k = 0;
+    while k < TABLE_CHECKS.len() {
+        let number = TABLE_CHECKS[k];
         let i = first_row_fault(table, n, number);
         if i < n {
             return Answer::Refused { number, place: i };
         }
-        number += 1;
+        k += 1;
     }
     Answer::Done(n)
 }

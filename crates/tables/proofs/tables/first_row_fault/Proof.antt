@@ -9,7 +9,7 @@ use Rattle.tables.proofs.tables.first_row_fault.Tie as tie
 pub first-row-fault-spec : {M : Type 1} → statement M
 first-row-fault-spec = tie.close (tie.spec
     (λ c κs. search needs)
-    (λ c. let s = c .before .before .before in plain-first-is _ _ _ _ (c .before .if1 .taken) (s .pre .3) (c .first-plain .ensures))
+    (λ c. let s = c .before .before .before in plain-first-is _ _ _ _ (c .before .if1 .taken) (c .first-plain .ensures))
     (λ c. search needs)
     (λ c. search needs)
     (λ c. search needs)
