@@ -1,6 +1,7 @@
 pub mod Words
 pub mod Answers
 pub mod Whole
+pub mod Ordered
 pub mod Accepted
 pub mod Nesting
 pub mod Faults
@@ -9,6 +10,7 @@ pub mod Joins
 pub mod Parting
 pub mod RowLists
 pub mod Scanned
+pub mod OrderedRows
 pub mod Proper
 pub mod InPlace
 pub mod AcceptedRule

@@ -1,0 +1,208 @@
+-- What a table tells that has no fault but, maybe, 12: whole rows, rows that rise, parents before, devices in one piece. Assumes nothing.
+use Prim.Native.Nat.{ℕ, zero, suc, _+_, _-_, _*_, _≤_, _<_}
+use mathlib.Core.Path.{_≡_, refl, sym, ap, _∙_}
+use mathlib.Core.Logic.{⊎-elim}
+use mathlib.Core.Bool.{Bool, true, false, not, _&&_, _||_, true≢false}
+use mathlib.Core.List.{List}
+use native.Mathlib.Nat.{eq-or-lt-of-le}
+use native.Mathlib.Omega.{arith}
+use lib.ListN.{length}
+use lib.Dec.{ltb, leb, eqb}
+use borrow.Author.Tests.{lt-ltb, ltb-true, ltb-false, leb-true, leb-false, eqb-true, not-false}
+use Rattle.base.specs.Lists.{_∈_, select}
+use Rattle.base.specs.Search.{first, some}
+use Rattle.base.proofs.Bools.{either, and-left, and-right, or-left, or-right}
+use Rattle.base.proofs.Search.{at-first, none-before}
+use Rattle.tables.specs.Answers.{isDone, unless, inOrder}
+use Rattle.tables.specs.Words.{notIdentifier, notValue, rowWords, rowAt, rowCount}
+use Rattle.tables.specs.Tables.{root, isParent, isAbove, outOfRange, notAbove, noParent, rowFault, rowLimit, tableLength, tableChecks}
+use Rattle.tables.specs.Devices.{fromDevice}
+use Rattle.tables.specs.declared.Answer.{Answer}
+use Rattle.tables.specs.declared.Row.{Row}
+use Rattle.tables.proofs.Answers.{unless-ok, unless-next, unless-passed, listed, no-fault, in-order-passed}
+use Rattle.tables.proofs.Whole.{whole-lines, table-whole, table-few}
+
+-- the checks of rows but 12
+abbrev pub but12 : ℕ → Bool
+but12 k = not (eqb k 12)
+
+abbrev pub orderChecks : List ℕ
+orderChecks = select but12 tableChecks
+
+-- what 8 and they answer
+unfoldable pub checkOrder : List ℕ → Answer
+checkOrder t = unless (tableLength t) 8 (inOrder (rowFault t) (rowCount t) orderChecks)
+
+-- the table has no fault but, maybe, 12
+abbrev pub orderedTable : List ℕ → Bool
+orderedTable t = isDone (checkOrder t)
+
+identifier : (x : ℕ) → notIdentifier x ≡ false → (1 ≤ x) × (x ≤ 65535)
+identifier x e =
+    (ltb-false x 1 (or-left (ltb x 1) (ltb 65535 x) e), ltb-false 65535 x (or-right (ltb x 1) (ltb 65535 x) e))
+
+-- a parent is of the same device, and up names its at
+pub parent-device : (r p : Row) → isParent r p ≡ true → p .device ≡ r .device
+parent-device r p e = eqb-true (p .device) (r .device) (and-left (eqb (p .device) (r .device)) (eqb (p .at) (r .up)) e)
+
+pub parent-at : (r p : Row) → isParent r p ≡ true → p .at ≡ r .up
+parent-at r p e = eqb-true (p .at) (r .up) (and-right (eqb (p .device) (r .device)) (eqb (p .at) (r .up)) e)
+
+module _ (t : List ℕ) where
+  -- without faults but 12 it is ordered
+  pub order : tableLength t ≡ true → ((k : ℕ) → k ∈ orderChecks → (i : ℕ) → i < rowCount t → rowFault t k i ≡ false) → orderedTable t ≡ true
+  unfolding checkOrder
+  order l h =
+      ap isDone
+      (unless-passed (tableLength t) 8 (inOrder (rowFault t) (rowCount t) orderChecks) l ∙ in-order-passed (rowFault t) (rowCount t) orderChecks h)
+
+  module _ (ok : orderedTable t ≡ true) where
+    pub length-ok : tableLength t ≡ true
+    unfolding checkOrder
+    length-ok = unless-ok (tableLength t) 8 (inOrder (rowFault t) (rowCount t) orderChecks) ok
+
+    -- the words are those of whole rows
+    pub whole-rows : length t ≡ rowWords * rowCount t
+    whole-rows = whole-lines rowWords t (table-whole t length-ok)
+
+    pub few-rows : rowCount t ≤ rowLimit
+    few-rows = table-few t length-ok
+
+    -- no row has a fault but 12
+    pub faultless : (k : ℕ) → k ∈ orderChecks → (i : ℕ) → i < rowCount t → rowFault t k i ≡ false
+    unfolding checkOrder
+    faultless = no-fault (rowFault t) (rowCount t) orderChecks (unless-next (tableLength t) 8 (inOrder (rowFault t) (rowCount t) orderChecks) ok)
+
+    pub no-9 : (i : ℕ) → i < rowCount t → outOfRange (rowAt t i) ≡ false
+    unfolding rowFault
+    no-9 = faultless 9 (listed orderChecks 9 refl)
+
+    pub no-10 : (i : ℕ) → i < rowCount t → notAbove t i ≡ false
+    unfolding rowFault
+    no-10 = faultless 10 (listed orderChecks 10 refl)
+
+    pub no-11 : (i : ℕ) → i < rowCount t → noParent t i ≡ false
+    unfolding rowFault
+    no-11 = faultless 11 (listed orderChecks 11 refl)
+
+    -- ---- ranges
+    module _ (i : ℕ) (h : i < rowCount t) where
+      but-value : (notIdentifier (rowAt t i .device) || notIdentifier (rowAt t i .at) || notIdentifier (rowAt t i .name)) ≡ false
+      but-value = or-left _ (notValue (rowAt t i .value)) (no-9 i h)
+
+      but-name : (notIdentifier (rowAt t i .device) || notIdentifier (rowAt t i .at)) ≡ false
+      but-name = or-left _ (notIdentifier (rowAt t i .name)) but-value
+
+      pub device-range : (1 ≤ rowAt t i .device) × (rowAt t i .device ≤ 65535)
+      device-range = identifier (rowAt t i .device) (or-left _ (notIdentifier (rowAt t i .at)) but-name)
+
+      pub at-range : (1 ≤ rowAt t i .at) × (rowAt t i .at ≤ 65535)
+      at-range = identifier (rowAt t i .at) (or-right (notIdentifier (rowAt t i .device)) _ but-name)
+
+      pub name-range : (1 ≤ rowAt t i .name) × (rowAt t i .name ≤ 65535)
+      name-range = identifier (rowAt t i .name) (or-right (notIdentifier (rowAt t i .device) || notIdentifier (rowAt t i .at)) _ but-value)
+
+      pub value-range : rowAt t i .value ≤ 2147483647
+      value-range = ltb-false 2147483647 (rowAt t i .value) (or-right (notIdentifier (rowAt t i .device) || notIdentifier (rowAt t i .at) || notIdentifier (rowAt t i .name)) _ (no-9 i h))
+
+    -- ---- order
+    -- the device and the at of a row
+    abbrev deviceAt : ℕ → ℕ
+    deviceAt i = rowAt t i .device
+
+    abbrev atAt : ℕ → ℕ
+    atAt i = rowAt t i .at
+
+    -- a row stands above the row before
+    pub above : (i : ℕ) → suc i < rowCount t → isAbove (rowAt t (suc i)) (rowAt t i) ≡ true
+    above i h =
+        let p : 0 < suc i = omega arith in
+        let q : suc i - 1 ≡ i = omega arith in
+        let e : notAbove t (suc i) ≡ false = no-10 (suc i) h in
+        not-false _ (rw (lt-ltb 0 (suc i) p, q) at e)
+
+    rise : (i : ℕ) → suc i < rowCount t → deviceAt i ≤ deviceAt (suc i)
+    rise i h = either (ltb (deviceAt i) (deviceAt (suc i)))
+        (λ s. omega (arith, ltb-true (deviceAt i) (deviceAt (suc i)) s))
+        (λ s. let e : (eqb (deviceAt i) (deviceAt (suc i)) && ltb (atAt i) (atAt (suc i))) ≡ true = (rw s at (above i h)) in
+        omega (arith, eqb-true (deviceAt i) (deviceAt (suc i)) (and-left _ _ e)))
+
+    -- rows rise by device
+    pub rises : (i j : ℕ) → i ≤ j → j < rowCount t → rowAt t i .device ≤ rowAt t j .device
+    rises i zero h l = let e : i ≡ 0 = omega arith in omega (arith, ap deviceAt e)
+    rises i (suc j) h l = ⊎-elim
+        (λ e. omega (arith, ap deviceAt e))
+        (λ m. let m′ : i ≤ j = omega arith in let l′ : j < rowCount t = omega arith in omega (arith, rises i j m′ l′, rise j l))
+        (eq-or-lt-of-le h)
+
+    -- rows of one device rise by at
+    pub strictly : (i j : ℕ) → i < j → j < rowCount t → rowAt t i .device ≡ rowAt t j .device → rowAt t i .at < rowAt t j .at
+    strictly i zero h l e = absurd (omega arith)
+    strictly i (suc j) h l e =
+        let m : i ≤ j = omega arith in
+        let l′ : j < rowCount t = omega arith in
+        let up : deviceAt i ≤ deviceAt j = rises i j m l′ in
+        let one : deviceAt j ≤ deviceAt (suc j) = rise j l in
+        let step : atAt j < atAt (suc j) = either (ltb (deviceAt j) (deviceAt (suc j)))
+        (λ s. let q : deviceAt j < deviceAt (suc j) = ltb-true (deviceAt j) (deviceAt (suc j)) s in absurd (omega arith))
+        (λ s. ltb-true (atAt j) (atAt (suc j)) (and-right (eqb (deviceAt j) (deviceAt (suc j))) (ltb (atAt j) (atAt (suc j))) (rw s at (above j l)))) in
+        ⊎-elim
+        (λ q. let z : atAt i ≡ atAt j = ap atAt q in omega arith)
+        (λ q. let z : atAt i < atAt j = strictly i j q l′ (omega arith) in omega arith)
+        (eq-or-lt-of-le m)
+
+    -- (device, at) identifies a row
+    pub same-place : (i j : ℕ) → i < rowCount t → j < rowCount t → rowAt t i .device ≡ rowAt t j .device → rowAt t i .at ≡ rowAt t j .at → i ≡ j
+    same-place i j hi hj e f = either (ltb i j)
+        (λ s. absurd (omega (arith, strictly i j (ltb-true i j s) hj e)))
+        (λ s. either (ltb j i)
+        (λ u. absurd (omega (arith, strictly j i (ltb-true j i u) hi (sym e))))
+        (λ u. omega (arith, ltb-false i j s, ltb-false j i u)))
+
+    -- ---- parents
+    -- a row that is no root has its parent among the rows before
+    pub has-parent : (i : ℕ) → i < rowCount t → root (rowAt t i) ≡ false → (p : ℕ) × (p < i) × (isParent (rowAt t i) (rowAt t p) ≡ true)
+    has-parent i h e =
+        let s : some (λ j. isParent (rowAt t i) (rowAt t j)) i ≡ true = found (root (rowAt t i)) _ e (no-11 i h) in
+        let m : first (λ j. isParent (rowAt t i) (rowAt t j)) i < i = ltb-true _ _ s in
+        (first (λ j. isParent (rowAt t i) (rowAt t j)) i, m, at-first (λ j. isParent (rowAt t i) (rowAt t j)) i m)
+      where
+        found : (a b : Bool) → a ≡ false → (not a && not b) ≡ false → b ≡ true
+        found a true e f = refl
+        found true false e f = absurd (true≢false e)
+        found false false e f = sym f
+
+    -- a row stands behind its parent
+    pub behind : (p i : ℕ) → p < rowCount t → i < rowCount t → isParent (rowAt t i) (rowAt t p) ≡ true → p < i
+    behind p i hp hi e =
+        let a : atAt p ≡ rowAt t i .up = parent-at (rowAt t i) (rowAt t p) e in
+        let f : root (rowAt t i) ≡ false = either (root (rowAt t i))
+        (λ s. absurd (omega (arith, at-range p hp .0, eqb-true (rowAt t i .up) 0 s)))
+        (λ s. s) in
+        let q = has-parent i hi f in
+        let hm : q .0 < rowCount t = omega (arith, q .1) in
+        let g : q .0 ≡ p = same-place (q .0) p hm hp
+        (parent-device (rowAt t i) (rowAt t (q .0)) (q .2) ∙ sym (parent-device (rowAt t i) (rowAt t p) e))
+        (parent-at (rowAt t i) (rowAt t (q .0)) (q .2) ∙ sym a) in
+        omega (arith, q .1)
+
+    -- ---- the rows of device d are those from fromDevice d up to fromDevice (d + 1)
+    module _ (d i : ℕ) (h : i < rowCount t) where
+      pub in-part : fromDevice t d ≤ i → i < fromDevice t (d + 1) → rowAt t i .device ≡ d
+      in-part a b =
+          let u : deviceAt i ≤ d = omega (arith, leb-false (d + 1) (deviceAt i) (none-before (λ k. leb (d + 1) (deviceAt k)) (rowCount t) i b)) in
+          let w : d ≤ deviceAt (fromDevice t d) = leb-true d (deviceAt (fromDevice t d)) (at-first (λ k. leb d (deviceAt k)) (rowCount t) (omega arith)) in
+          omega (arith, rises (fromDevice t d) i a h)
+
+      pub of-device : rowAt t i .device ≡ d → (fromDevice t d ≤ i) × (i < fromDevice t (d + 1))
+      of-device e = (
+        either (ltb i (fromDevice t d))
+            (λ s. absurd (omega (arith, leb-false d (deviceAt i) (none-before (λ k. leb d (deviceAt k)) (rowCount t) i (ltb-true i (fromDevice t d) s)))))
+            (λ s. ltb-false i (fromDevice t d) s),
+        either (ltb i (fromDevice t (d + 1)))
+            (λ s. ltb-true i (fromDevice t (d + 1)) s)
+            (λ s. let g : fromDevice t (d + 1) ≤ i = ltb-false i (fromDevice t (d + 1)) s in
+            let w : d + 1 ≤ deviceAt (fromDevice t (d + 1))
+            = leb-true (d + 1) (deviceAt (fromDevice t (d + 1))) (at-first (λ k. leb (d + 1) (deviceAt k)) (rowCount t) (omega arith)) in
+            absurd (omega (arith, rises (fromDevice t (d + 1)) i g h))),
+      )
