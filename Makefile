@@ -1,7 +1,7 @@
 # The library for C programs, the program, their installation and what uses them.
 #
 #   make                      prove the library and copy its archive to build/libgabzeril.a
-#   make demo                 prove and build the program, and run it on samples/case-f
+#   make demo                 prove and build the program, and run it on case-f of samples/
 #   make help                 this list
 #   make install PREFIX=DIR   program, header, archive and pkg-config file
 #   make uninstall PREFIX=DIR remove them
@@ -51,7 +51,7 @@ target/bin/gabzeril: $(PROVED) | build
 	@touch -c $@
 
 demo: $(PROGRAM)
-	@cd samples/case-f && $(abspath $(PROGRAM))
+	@samples/run.sh $(PROGRAM) case-f
 
 target/staticlib/libentry.a: $(PROVED) | build
 	@.ci/prove build/library.log rt staticlib entry
