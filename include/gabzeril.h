@@ -24,7 +24,7 @@ extern "C" {
 #endif
 
 /* The Makefile reads the version from this line. */
-#define GABZERIL_VERSION "0.1.0"
+#define GABZERIL_VERSION "0.2.0"
 
 /* Limits. */
 
