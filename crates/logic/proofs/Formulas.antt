@@ -33,18 +33,28 @@ build-same (suc (suc (suc (suc (suc zero))))) a b c f g l r = ap (quantified eve
 build-same (suc (suc (suc (suc (suc (suc zero)))))) a b c f g l r = ap (quantified some (overOf b) c) (l (omega arith))
 build-same (suc (suc (suc (suc (suc (suc (suc k))))))) a b c f g l r = refl
 
+-- the formula of entry k, over those of later entries
+module _ (r : List ℕ) (k : ℕ) where
+  pub later : ℕ → Formula
+  later j = getD (drop (suc k) (formulas r 0 (entryCount r))) (j - suc k) noFormula
+
+  pub later-is : (j : ℕ) → k < j → later j ≡ formulaAt r j
+  unfolding later formulaAt
+  later-is j l =
+      getD-drop (suc k) (formulas r 0 (entryCount r)) (j - suc k) noFormula
+      ∙ ap (λ (m : ℕ). getD (formulas r 0 (entryCount r)) m noFormula) (omega arith)
+
+  pub formula-later : k < entryCount r → formulaAt r k ≡ build (entryAt r k) later
+  unfolding later formulaAt
+  formula-later h =
+      formulas-at r 0 (entryCount r) k h
+      ∙ ap (λ (m : ℕ). build (entryAt r m) (λ j. getD (drop (suc k) (formulas r 0 (entryCount r))) (j - suc m) noFormula))
+      (let z : 0 + k ≡ k = omega arith in z)
+
 module _ (r : List ℕ) (ok : acceptedRule r ≡ true) where
   pub formula-at : (k : ℕ) → k < entryCount r → formulaAt r k ≡ build (entryAt r k) (formulaAt r)
-  unfolding formulaAt
   formula-at k h =
-      formulas-at r 0 (entryCount r) k h
-      ∙ ap (λ (m : ℕ). build (entryAt r m) (λ j. getD (drop (suc k) (formulas r 0 (entryCount r))) (j - suc m) noFormula)) (let z : 0 + k ≡ k = omega arith in z)
-      ∙ build-same (entryAt r k .kind) (entryAt r k .a) (entryAt r k .b) (entryAt r k .c) later (formulaAt r)
-      (λ l. child (entryAt r k .a) (child-later r ok k h l .0))
-      (λ l m. child (entryAt r k .b) (right-later r ok k h l m .0))
-    where
-      later : ℕ → Formula
-      later j = getD (drop (suc k) (formulas r 0 (entryCount r))) (j - suc k) noFormula
-
-      child : (j : ℕ) → k < j → later j ≡ formulaAt r j
-      child j l = getD-drop (suc k) (formulas r 0 (entryCount r)) (j - suc k) noFormula ∙ ap (λ (m : ℕ). getD (formulas r 0 (entryCount r)) m noFormula) (omega arith)
+      formula-later r k h
+      ∙ build-same (entryAt r k .kind) (entryAt r k .a) (entryAt r k .b) (entryAt r k .c) (later r k) (formulaAt r)
+      (λ l. later-is r k (entryAt r k .a) (child-later r ok k h l .0))
+      (λ l m. later-is r k (entryAt r k .b) (right-later r ok k h l m .0))

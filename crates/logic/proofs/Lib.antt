@@ -14,6 +14,7 @@ pub mod Joinings
 pub mod Calls
 pub mod Demand
 pub mod Formulas
+pub mod EntryTree
 pub mod Nesting
 pub mod Walks
 pub mod Reasons

@@ -1,23 +1,24 @@
 -- An accepted rule has no more levels than the limit, and 6 is given at the first quantifier too many. Assumes nothing.
 use Prim.Native.Nat.{ℕ, zero, suc, _+_, _-_, _≤_, _<_, max}
-use mathlib.Core.Path.{_≡_, sym, _∙_}
-use mathlib.Core.Bool.{true, _&&_, true≢false}
+use mathlib.Core.Path.{_≡_, refl, sym, ap, _∙_}
+use mathlib.Core.Bool.{true, false, _&&_, _||_, true≢false, false≢true}
 use mathlib.Core.List.{List}
-use native.Mathlib.Nat.{max-le}
+use native.Mathlib.Nat.{max-le, le-max-left, le-max-right}
 use native.Mathlib.Omega.{arith}
-use lib.Dec.{ltb, leb}
-use borrow.Author.Tests.{le-leb, leb-true, ltb-true, ltb-false}
+use lib.Dec.{eqb, ltb, leb}
+use borrow.Author.Tests.{eqb-true, le-leb, leb-true, ltb-true, ltb-false}
 use Rattle.base.proofs.Bools.{either, and-left, and-right, and-both}
 use Rattle.tables.specs.Words.{entryAt, entryCount}
-use Rattle.tables.specs.Rules.{nestingLimit, isQuantifier, isChild, one, aroundFrom, around, entryFault, checkRule, acceptedRule}
+use Rattle.tables.specs.Rules.{nestingLimit, isQuantifier, one, isChild, aroundFrom, around, badChild, badNaming, entryFault, checkRule, acceptedRule}
 use Rattle.tables.specs.declared.Entry.{Entry}
 use Rattle.tables.specs.declared.Answer.the-variants.{Refused}
 use Rattle.tables.proofs.AcceptedRule as entries
-use Rattle.tables.proofs.AcceptedRule.{refused-rule}
+use Rattle.tables.proofs.AcceptedRule.{refused-entry, passed-entries}
 use Rattle.tables.proofs.Answers.{FirstAtFault}
 use Rattle.logic.specs.Formulas.{Formula, build, formulaAt, formula}
 use Rattle.logic.specs.Nesting.{levels, Limited, LevelsLimited}
-use Rattle.logic.proofs.Formulas.{formula-at}
+use Rattle.logic.proofs.Formulas.{later, later-is, formula-later, formula-at}
+use Rattle.logic.proofs.EntryTree.{parent-kind, parent-of}
 
 -- ---- the levels of an entry around which d quantifiers stand
 two-sides : (d l x y : ℕ) → d + x ≤ l → d + y ≤ l → d + max x y ≤ l
@@ -91,9 +92,9 @@ module _ (r : List ℕ) (i m : ℕ) where
   unfolding Inside
   wider w = (w .0, omega (arith, w .1), w .2, w .3)
 
-  parent : one (isQuantifier (entryAt r i)) + around r i ≡ suc m → (around r i ≡ suc m → Inside r i m) → Inside r (suc i) m
+  at-parent : one (isQuantifier (entryAt r i)) + around r i ≡ suc m → (around r i ≡ suc m → Inside r i m) → Inside r (suc i) m
   unfolding Inside
-  parent e f = either (isQuantifier (entryAt r i))
+  at-parent e f = either (isQuantifier (entryAt r i))
       (λ q. (i, omega arith, q, omega (arith, rw q at e)))
       (λ q. wider (f (omega (arith, rw q at e))))
 
@@ -101,13 +102,93 @@ innermost : (r : List ℕ) (i j m : ℕ) → aroundFrom r i j ≡ suc m → Insi
 unfolding aroundFrom
 innermost r zero j m e = absurd (omega arith)
 innermost r (suc i) j m e = either (isChild (entryAt r i) j)
-    (λ c. parent r i m (rw c at e) (innermost r i i m))
+    (λ c. at-parent r i m (rw c at e) (innermost r i i m))
     (λ c. wider r i m (innermost r i j m (rw c at e)))
+
+-- ---- a formula has the levels of its parts
+module _ (a b c : ℕ) (f : ℕ → Formula) (j : ℕ) where
+  abbrev entry : ℕ → Entry
+  entry k = record { kind = k; a = a; b = b; c = c }
+
+  only : (eqb a j || false) ≡ true → levels (f j) ≡ levels (f a)
+  only e = either (eqb a j)
+      (λ q. ap (λ (n : ℕ). levels (f n)) (sym (eqb-true a j q)))
+      (λ q. absurd (false≢true (rw q at e)))
+
+  sides : (eqb a j || eqb b j) ≡ true → levels (f j) ≤ max (levels (f a)) (levels (f b))
+  sides e = either (eqb a j)
+      (λ q. rw (← eqb-true a j q) (le-max-left (levels (f a)) (levels (f b))))
+      (λ q. let z : eqb b j ≡ true = (rw q at e) in rw (← eqb-true b j z) (le-max-right (levels (f a)) (levels (f b))))
+
+  -- of an entry's child, and one more for a quantifier
+  levels-child : (k : ℕ) → 1 ≤ k → k ≤ 6 → isChild (entry k) j ≡ true
+      → one (isQuantifier (entry k)) + levels (f j) ≤ levels (build (entry k) f)
+  unfolding levels
+  levels-child zero l h e = absurd (omega arith)
+  levels-child (suc zero) l h e = omega (arith, only e)
+  levels-child (suc (suc zero)) l h e = omega (arith, sides e)
+  levels-child (suc (suc (suc zero))) l h e = omega (arith, sides e)
+  levels-child (suc (suc (suc (suc zero)))) l h e = omega (arith, sides e)
+  levels-child (suc (suc (suc (suc (suc zero))))) l h e = omega (arith, only e)
+  levels-child (suc (suc (suc (suc (suc (suc zero)))))) l h e = omega (arith, only e)
+  levels-child (suc (suc (suc (suc (suc (suc (suc k))))))) l h e = absurd (omega arith)
+
+  levels-quantifier : (k : ℕ) → isQuantifier (entry k) ≡ true → 0 < levels (build (entry k) f)
+  unfolding levels
+  levels-quantifier k e = go k (leb-true 5 k (and-left (leb 5 k) (leb k 6) e)) (leb-true k 6 (and-right (leb 5 k) (leb k 6) e))
+    where
+      go : (n : ℕ) → 5 ≤ n → n ≤ 6 → 0 < levels (build (entry n) f)
+      go zero l h = absurd (omega arith)
+      go (suc zero) l h = absurd (omega arith)
+      go (suc (suc zero)) l h = absurd (omega arith)
+      go (suc (suc (suc zero))) l h = absurd (omega arith)
+      go (suc (suc (suc (suc zero)))) l h = absurd (omega arith)
+      go (suc (suc (suc (suc (suc zero))))) l h = omega arith
+      go (suc (suc (suc (suc (suc (suc zero)))))) l h = omega arith
+      go (suc (suc (suc (suc (suc (suc (suc n))))))) l h = absurd (omega arith)
+
+-- ---- in entries that pass 4 and 5
+module _ (r : List ℕ) (children : (i : ℕ) → i < entryCount r → badChild (entryCount r) i (entryAt r i) ≡ false)
+    (named : (j : ℕ) → j < entryCount r → badNaming r j ≡ false) where
+  abbrev n : ℕ
+  n = entryCount r
+
+  -- the levels of an entry are within its parent's, and with the quantifiers around it within the rule's
+  child-levels : (i j : ℕ) → i < j → j < n → isChild (entryAt r i) j ≡ true
+      → one (isQuantifier (entryAt r i)) + levels (formulaAt r j) ≤ levels (formulaAt r i)
+  child-levels i j l h c =
+      let e = entryAt r i in
+      let k = parent-kind e j c in
+      omega (
+        arith,
+        levels-child (e .a) (e .b) (e .c) (later r i) j (e .kind) (k .0) (k .1) c,
+        ap levels (later-is r i j l),
+        ap levels (formula-later r i (omega arith)),
+      )
+
+  Rule-levels : ℕ → Type 0
+  Rule-levels j = around r j + levels (formulaAt r j) ≤ levels (formula r)
+
+  entry-levels : (j : ℕ) → j < n → ((i : ℕ) → i < j → i < n → Rule-levels i) → Rule-levels j
+  unfolding aroundFrom Rule-levels
+  entry-levels zero h earlier = omega arith
+  entry-levels (suc j) h earlier =
+      let q = parent-of r children named (suc j) (omega arith) h in
+      omega (
+        arith,
+        q .around-is,
+        child-levels (q .parent) (suc j) (q .below) h (q .child),
+        earlier (q .parent) (q .below) (omega (arith, q .below)),
+      )
+
+  rule-levels : (m j : ℕ) → j < m → j < n → Rule-levels j
+  rule-levels zero j l h = absurd (omega arith)
+  rule-levels (suc m) j l h = entry-levels j h (λ i k g. rule-levels m i (omega arith) g)
 
 -- ---- refused with 6
 module _ (r : List ℕ) (p : ℕ) (refused : checkRule r ≡ Refused 6 p) where
-  at-first : FirstAtFault (entryFault r) 6 p
-  at-first = refused-rule r 6 p (omega arith) refused
+  at-first : FirstAtFault (entryFault r) (entryCount r) 6 p
+  at-first = refused-entry r 6 p (omega arith) refused
 
   too-deep : (isQuantifier (entryAt r p) && leb nestingLimit (around r p)) ≡ true
   unfolding entryFault
@@ -128,5 +209,18 @@ module _ (r : List ℕ) (p : ℕ) (refused : checkRule r ≡ Refused 6 p) where
       absurd (none-earlier (w .0) (w .1) (w .2) (omega (arith, w .3))))
       (λ s. omega (arith, ltb-false nestingLimit (around r p) s, leb-true nestingLimit (around r p) (and-right (isQuantifier (entryAt r p)) _ too-deep)))
 
+  more-levels : nestingLimit < levels (formula r)
+  unfolding entryFault Rule-levels
+  more-levels =
+      let h = at-first .inside in
+      let e = entryAt r p in
+      omega (
+        arith,
+        as-many-around,
+        levels-quantifier (e .a) (e .b) (e .c) (later r p) 0 (e .kind) at-quantifier,
+        ap levels (formula-later r p h),
+        rule-levels r (passed-entries r 6 p (omega arith) refused 4 refl) (passed-entries r 6 p (omega arith) refused 5 refl) (suc p) p (omega arith) h,
+      )
+
 pub limited : LevelsLimited
-limited r = record { accepted = rule-within r; quantifier = at-quantifier r; one-more = as-many-around r }
+limited r = record { accepted = rule-within r; refused = more-levels r; at-quantifier = at-quantifier r; as-many-around = as-many-around r }

@@ -1,5 +1,5 @@
 -- 02, wish 7: quantifiers around one another. Assumes nothing.
-use Prim.Native.Nat.{ℕ, suc, _≤_, max}
+use Prim.Native.Nat.{ℕ, suc, _≤_, _<_, max}
 use mathlib.Core.Path.{_≡_}
 use mathlib.Core.Bool.{true}
 use mathlib.Core.List.{List}
@@ -16,11 +16,12 @@ levels (quantified q o n φ) = suc (levels φ)
 levels (compared c v w) = 0
 
 pub record Limited (rule : List ℕ) : Type 0 where
-  -- in an accepted rule no more stand around one another than the limit
+  -- in an accepted rule no more stand around one another than the limit, and in one refused with 6 more do
   pub accepted : acceptedRule rule ≡ true → levels (formula rule) ≤ nestingLimit
-  -- 6 is given at a quantifier, and the number of those around it is the limit: it is the first too many
-  pub quantifier : (p : ℕ) → checkRule rule ≡ Refused 6 p → isQuantifier (entryAt rule p) ≡ true
-  pub one-more : (p : ℕ) → checkRule rule ≡ Refused 6 p → around rule p ≡ nestingLimit
+  pub refused : (p : ℕ) → checkRule rule ≡ Refused 6 p → nestingLimit < levels (formula rule)
+  -- 6 is given at a quantifier with as many around it as the limit
+  pub at-quantifier : (p : ℕ) → checkRule rule ≡ Refused 6 p → isQuantifier (entryAt rule p) ≡ true
+  pub as-many-around : (p : ℕ) → checkRule rule ≡ Refused 6 p → around rule p ≡ nestingLimit
 
 -- the claim: so it is for every run of words
 abbrev pub LevelsLimited : Type 0

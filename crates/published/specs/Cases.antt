@@ -56,6 +56,11 @@ abbrev pub nested : ℕ → ℕ → List ℕ
 nested i zero = entry 7 0 1 0
 nested i (suc n) = entry 5 (suc i) 0 1 ++ nested (suc i) n
 
+-- n + 1 quantifiers side by side, from entry i on
+abbrev pub beside : ℕ → ℕ → List ℕ
+beside i zero = entry 6 (i + 1) 0 1 ++ entry 7 0 1 0
+beside i (suc n) = entry 3 (i + 1) (i + 3) 0 ++ entry 6 (i + 2) 0 1 ++ entry 7 0 1 0 ++ beside (i + 3) n
+
 -- every a is k (name 1 is a, name 2 is b)
 abbrev pub everyIs : ℕ → List ℕ
 everyIs k = entry 5 1 0 1 ++ entry 7 0 1 k
@@ -186,6 +191,8 @@ cases =
     -- (k)
     ∷ ruleChecked (nested 0 6) (Done 7)
     ∷ ruleChecked (nested 0 7) (Refused 6 6)
+    -- those side by side do not count
+    ∷ ruleChecked (beside 0 6) (Done 20)
     -- (l)
     ∷ joins D2 D1 (Refused 16 0)
     ∷ joins D1 D2 (Done 25)

@@ -18,7 +18,7 @@ use Rattle.tables.specs.Rules.{nestingLimit, isQuantifier, isConnective,
 use Rattle.tables.specs.declared.Entry.{Entry}
 use Rattle.tables.specs.declared.Answer.{Answer}
 use Rattle.tables.specs.declared.Answer.the-variants.{Refused}
-use Rattle.tables.proofs.Answers.{unless-ok, unless-next, listed, no-fault, FirstAtFault, first-at-fault}
+use Rattle.tables.proofs.Answers.{unless-ok, unless-next, listed, no-fault, FirstAtFault, first-at-fault, before, passed-earlier}
 use Rattle.tables.proofs.Whole.{whole-lines, rule-whole, rule-some, rule-few}
 
 -- ---- a sum holds each of its terms
@@ -190,11 +190,18 @@ module _ (r : List ℕ) (ok : acceptedRule r ≡ true) where
           leb-false (around r i) (entryAt r i .c)
           (clear (entryAt r i) (eqb (entryAt r i .b) 0) _ (or-right (leb (around r i) (entryAt r i .a)) _ compared-ok) (eq-eqb (entryAt r i .b) 0 e))
 
--- ---- a refused rule: but for 1, the place is the first entry with the fault of that number
-pub refused-rule : (r : List ℕ) (k p : ℕ) → 1 < k → checkRule r ≡ Refused k p → FirstAtFault (entryFault r) k p
-unfolding checkRule
-refused-rule r k p h e = first-at-fault (entryFault r) (entryCount r) k p ruleChecks (past-length (ruleLength r) _ e)
-  where
-    past-length : (ok : Bool) (next : Answer) → unless ok 1 next ≡ Refused k p → next ≡ Refused k p
-    past-length true next q = q
-    past-length false next q = absurd (let z : 1 ≡ k = ap number q in omega arith)
+-- ---- a refused rule: but for 1, the place is the first entry with the fault of that number, and no entry has an earlier one
+module _ (r : List ℕ) (k p : ℕ) (h : 1 < k) (refused : checkRule r ≡ Refused k p) where
+  past-length : (ok : Bool) (next : Answer) → unless ok 1 next ≡ Refused k p → next ≡ Refused k p
+  past-length true next q = q
+  past-length false next q = absurd (let z : 1 ≡ k = ap number q in omega arith)
+
+  in-entries : inOrder (entryFault r) (entryCount r) ruleChecks ≡ Refused k p
+  unfolding checkRule
+  in-entries = past-length (ruleLength r) _ refused
+
+  pub refused-entry : FirstAtFault (entryFault r) (entryCount r) k p
+  refused-entry = first-at-fault (entryFault r) (entryCount r) k p ruleChecks in-entries
+
+  pub passed-entries : (x : ℕ) → before x k ruleChecks ≡ true → (i : ℕ) → i < entryCount r → entryFault r x i ≡ false
+  passed-entries = passed-earlier (entryFault r) (entryCount r) k p ruleChecks in-entries

@@ -1,10 +1,10 @@
 -- What an accepted answer tells of the checks before it, and when checks are passed. Assumes nothing.
 use Prim.Native.Nat.{ℕ, _<_}
 use mathlib.Core.Path.{_≡_, refl, sym, ap, subst}
-use mathlib.Core.Bool.{Bool, true, false, cond, true≢false, false≢true}
+use mathlib.Core.Bool.{Bool, true, false, cond, _||_, true≢false, false≢true}
 use mathlib.Core.List.{List, [], _∷_, List·Memᴰ·head, List·Memᴰ·tail}
 use lib.Dec.{eqb}
-use borrow.Author.Tests.{eqb-true, ltb-true}
+use borrow.Author.Tests.{eqb-true, eq-eqb, ltb-true}
 use Rattle.base.specs.Lists.{_∈_, any}
 use Rattle.base.specs.Search.{first, some}
 use Rattle.base.proofs.Bools.{either}
@@ -70,19 +70,41 @@ module _ (fault : ℕ → ℕ → Bool) (n : ℕ) where
       rw (unlessAny-passed (fault x) x n (inOrder fault n ks) (h x (List·Memᴰ·head refl))) e
 
 -- ---- a refusal: its place is the first one with the fault of its number
-pub record FirstAtFault (fault : ℕ → ℕ → Bool) (k p : ℕ) : Type 0 where
+pub record FirstAtFault (fault : ℕ → ℕ → Bool) (n k p : ℕ) : Type 0 where
+  pub inside : p < n
   pub at-fault : fault k p ≡ true
   pub none-earlier : (i : ℕ) → i < p → fault k i ≡ false
 
-module _ (fault : ℕ → ℕ → Bool) (n k p : ℕ) where
-  found : (x : ℕ) → some (fault x) n ≡ true → Refused x (first (fault x) n) ≡ Refused k p → FirstAtFault fault k p
-  found x s e =
-      subst (FirstAtFault fault k) (ap place e)
-      (subst (λ (y : ℕ). FirstAtFault fault y (first (fault x) n)) (ap number e)
-      (record { at-fault = at-first (fault x) n (ltb-true _ _ s); none-earlier = none-before (fault x) n }))
+-- number x stands in the list before k
+abbrev pub before : ℕ → ℕ → List ℕ → Bool
+before x k [] = false
+before x k (y ∷ ks) = cond (eqb y k) false (eqb y x || before x k ks)
 
-  pub first-at-fault : (ks : List ℕ) → inOrder fault n ks ≡ Refused k p → FirstAtFault fault k p
+module _ (fault : ℕ → ℕ → Bool) (n k p : ℕ) where
+  found : (x : ℕ) → some (fault x) n ≡ true → Refused x (first (fault x) n) ≡ Refused k p → FirstAtFault fault n k p
+  found x s e =
+      subst (FirstAtFault fault n k) (ap place e)
+      (subst (λ (y : ℕ). FirstAtFault fault n y (first (fault x) n)) (ap number e)
+      (record { inside = ltb-true _ _ s; at-fault = at-first (fault x) n (ltb-true _ _ s); none-earlier = none-before (fault x) n }))
+
+  pub first-at-fault : (ks : List ℕ) → inOrder fault n ks ≡ Refused k p → FirstAtFault fault n k p
   first-at-fault [] e = absurd (true≢false (ap isDone e))
   first-at-fault (x ∷ ks) e = either (some (fault x) n)
       (λ s. found x s (rw s at e))
       (λ s. first-at-fault ks (rw s at e))
+
+  -- and no place has the fault of a number that is tested before it
+  pub passed-earlier : (ks : List ℕ) → inOrder fault n ks ≡ Refused k p → (x : ℕ) → before x k ks ≡ true
+      → (i : ℕ) → i < n → fault x i ≡ false
+  passed-earlier [] e x b i h = absurd (false≢true b)
+  passed-earlier (y ∷ ks) e x b i h = either (some (fault y) n)
+      (λ s. let z : Refused y (first (fault y) n) ≡ Refused k p = (rw s at e) in
+      let q : eqb y k ≡ true = eq-eqb y k (ap number z) in
+      absurd (false≢true (rw q at b)))
+      (λ s. either (eqb y x)
+      (λ q. subst (λ (z : ℕ). fault z i ≡ false) (eqb-true y x q) (none-at (fault y) n i s h))
+      (λ q. passed-earlier ks (rw s at e) x (rest (eqb y k) (rw q at b)) i h))
+    where
+      rest : (c : Bool) → cond c false (before x k ks) ≡ true → before x k ks ≡ true
+      rest true z = absurd (false≢true z)
+      rest false z = z
