@@ -31,10 +31,9 @@ enum {
     RULE_WORDS = GABZERIL_RULE_WORDS,
     POOL_WORDS = GABZERIL_TABLE_WORDS,
     PROGRAM_BYTES = GABZERIL_PROGRAM_FILE_BYTES,
-    FILE_BYTES = 100000, /* the longest file made here */
     TEXT_BYTES = GABZERIL_REPORT_BYTES,
-    MOST_NESTED = 6,       /* the quantifiers that may stand around one another */
-    FILLED = 0xa5
+    FILE_BYTES = 100000, /* the longest file made here */
+    FILLED = 0xa5        /* every byte of an output before the call */
 };
 
 static const char rule_line[] = "kind a b c\n";
@@ -42,7 +41,7 @@ static const char pool_line[] = "device at up name value\n";
 
 /* Random numbers: splitmix64. */
 
-static uint64_t random_state;
+static uint64_t random_state, case_seed;
 static unsigned long case_number;
 
 static uint64_t draw(void)
@@ -204,7 +203,7 @@ static void quick_rule(struct rule *rule)
 /* Quantifiers around one another, as many as may be or one more. */
 static void deep_rule(struct rule *rule)
 {
-    uint32_t depth = MOST_NESTED + below(2);
+    uint32_t depth = GABZERIL_NESTING_LIMIT + below(2);
     for (uint32_t i = 0; i < depth; i++) {
         set_entry(rule, i, 5 + below(2), i + 1, chance(50) ? 0 : i, 1 + below(3));
     }
@@ -465,11 +464,18 @@ static int is_answer(uint32_t answer)
     return answer <= 1 || (answer >= 101 && answer <= 112) || answer == 118 || answer == 119;
 }
 
+/* Begins a line about the running case, with the numbers that run it again. */
+static void print_case(FILE *stream)
+{
+    fprintf(stream, "seed %llu, case %lu: ", (unsigned long long)case_seed, case_number);
+}
+
 static unsigned long seen[120];
 
 /* Runs one case; 1 if all is as it should be. */
 static int run_case(uint64_t seed, unsigned long number)
 {
+    case_seed = seed;
     case_number = number;
     random_state = (seed << 32) + number;
     make_files();
@@ -478,12 +484,14 @@ static int run_case(uint64_t seed, unsigned long number)
     const void *pool_bytes = lend(pool_area, pool_file.bytes, pool_file.length);
     uint32_t answer = gabzeril_check_files(rule_bytes, rule_file.length, pool_bytes, pool_file.length);
     if (!is_answer(answer) || answer != separate_calls(rule_bytes, pool_bytes, SIZE_MAX)) {
-        printf("case %lu: answer %u\n", number, (unsigned)answer);
+        print_case(stdout);
+        printf("answer %u\n", (unsigned)answer);
         return 0;
     }
     seen[answer]++;
     if (!report_agrees(rule_bytes, pool_bytes)) {
-        printf("case %lu: report\n", number);
+        print_case(stdout);
+        printf("report\n");
         return 0;
     }
     return 1;
@@ -522,9 +530,10 @@ static int is_noticed(void (*fault)(void))
 }
 
 #ifdef __SANITIZE_ADDRESS__
-static void print_case(void)
+static void print_last_case(void)
 {
-    fprintf(stderr, "case %lu ended the program\n", case_number);
+    print_case(stderr);
+    fprintf(stderr, "ended the program\n");
 }
 #endif
 
@@ -561,7 +570,7 @@ int main(int argc, char **argv)
         printf("the harness does not notice a fault\n");
     }
 #ifdef __SANITIZE_ADDRESS__
-    __sanitizer_set_death_callback(print_case);
+    __sanitizer_set_death_callback(print_last_case);
 #endif
     for (unsigned long i = 0; i < cases; i++) {
         int good = run_case(seed, first + i);

@@ -23,8 +23,8 @@ mod verdict;
 mod worked;
 
 pub use device::{device_rows, devices_of};
-pub use entry::{Entry, Quantifier};
-pub use files::{read_pool, read_rule, write_pool, write_rule, POOL, RULE};
+pub use entry::{Entry, Quantifier, Relation};
+pub use files::{read_pool, read_rule, write_pool, write_rule, Format, POOL, RULE};
 pub use files_entry::check_files;
 pub use join::join;
 pub use marks::marks;
