@@ -8,7 +8,7 @@ use crate::answer::Answer;
 pub struct Tally {
     pub compared: u64,
     /// By the number of the refusal; 0 counts the accepted calls.
-    numbers: [u64; 20],
+    numbers: BTreeMap<u32, u64>,
     /// Accepted calls with the value 0, and with another.
     values: [u64; 2],
     /// What a test counts beside the answers.
@@ -18,7 +18,7 @@ pub struct Tally {
 impl Tally {
     pub fn count(&mut self, expected: Answer) {
         self.compared += 1;
-        self.numbers[expected.number() as usize] += 1;
+        *self.numbers.entry(expected.number()).or_default() += 1;
         if let Answer::Done(value) = expected {
             self.values[(value > 0) as usize] += 1;
         }
@@ -30,8 +30,8 @@ impl Tally {
 
     pub fn add(&mut self, other: &Tally) {
         self.compared += other.compared;
-        for (sum, number) in self.numbers.iter_mut().zip(other.numbers) {
-            *sum += number;
+        for (&refusal, number) in &other.numbers {
+            *self.numbers.entry(refusal).or_default() += number;
         }
         for (sum, number) in self.values.iter_mut().zip(other.values) {
             *sum += number;
@@ -42,9 +42,9 @@ impl Tally {
     }
 
     /// Fails unless each of these refusals (0: accepted) was expected at least so often.
-    pub fn saw_each(&self, numbers: impl IntoIterator<Item = usize>, least: u64) {
+    pub fn saw_each(&self, numbers: impl IntoIterator<Item = u32>, least: u64) {
         for number in numbers {
-            let seen = self.numbers[number];
+            let seen = self.numbers.get(&number).copied().unwrap_or(0);
             assert!(seen >= least, "refusal {number} was expected only {seen} times: {self:?}");
         }
     }
