@@ -11,7 +11,8 @@
  * A refused call changes no byte of any buffer. An accepted call writes its answer at the start of its
  * output and leaves what lies past it.
  *
- * docs/BENCHMARKS.md has the measured stack of each call; every call runs in a thread of 128 KiB.
+ * docs/BENCHMARKS.md has the measured stack of each call. Tests run every call on its largest inputs in a
+ * thread of 128 KiB; that is no promise.
  */
 #ifndef GABZERIL_H
 #define GABZERIL_H
