@@ -1,7 +1,9 @@
 //! Rules about as nested as may be, through every call that takes a rule.
 #![cfg(all(feature = "lower", feature = "engine", feature = "parts", feature = "files_entry"))]
 
-use gabzeril_tests::checker::{check_rule, MOST_NESTED, POOL, ROW_WORDS, RULE};
+use gabzeril_tests::checker::{
+    accepted_rule, accepted_table, check_rule, fewest_around, marks, MOST_NESTED, POOL, ROW_WORDS, RULE,
+};
 use gabzeril_tests::compare::{calls, run, Case, Tally};
 use gabzeril_tests::generate::*;
 
@@ -12,6 +14,7 @@ const ONE_MORE: &str = "refused with 6, one more around one another";
 const OTHER_PLACE: &str = "refused with 6 at another place than a chain of quantifiers";
 const BOTH_FAULTS: &str = "refused with 6, though a variable is not bound";
 const PASSED_6: &str = "refused with 7 with as many around one another as may be";
+const INNERMOST: &str = "marked by quantifiers with as many around them as may be alone";
 
 /// The place of 6 is that of the first entry at fault, in any order of the entries.
 #[test]
@@ -38,6 +41,7 @@ fn every_call() {
         let (nested, table) = nested_rule_and_table(&mut case.random, COST);
         if case.random.chance(80) {
             note(case, &nested);
+            note_innermost(case, &nested.words, &table);
             return each_call(case, &nested.words, &table);
         }
         let (rule, table) = damaged_together(&mut case.random, nested.words, table);
@@ -49,6 +53,7 @@ fn every_call() {
     tally.saw_each((0..=12).chain([14, 17]), 100);
     tally.saw_both_values(10_000);
     saw_the_limit(&tally, 1_000);
+    tally.saw_noted(INNERMOST, 300);
 }
 
 fn each_call(case: &mut Case, rule: &[u32], table: &[u32]) {
@@ -96,6 +101,19 @@ fn note(case: &mut Case, rule: &NestedRule) {
         if seen {
             case.note(what);
         }
+    }
+}
+
+/// Notes a marked row that no quantifier reaches with fewer around it: one of the innermost marks it.
+fn note_innermost(case: &mut Case, rule: &[u32], table: &[u32]) {
+    let (Ok(entries), Ok(rows)) = (accepted_rule(rule), accepted_table(table)) else {
+        return;
+    };
+    let mut marked = vec![0; rows.len()];
+    marks(rule, table, &mut marked);
+    let around = fewest_around(&entries, &rows);
+    if marked.iter().zip(around).any(|(&mark, around)| mark == 1 && around == Some(MOST_NESTED - 1)) {
+        case.note(INNERMOST);
     }
 }
 

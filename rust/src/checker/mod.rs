@@ -29,6 +29,7 @@ pub use files_entry::check_files;
 pub use join::join;
 pub use marks::marks;
 pub use part::part;
+pub use reach::fewest_around;
 pub use report::{report, report_text, MOST_FILE_BYTES};
 pub use rule::{accepted_rule, check_rule, ENTRY_WORDS, MOST_ENTRIES, MOST_NESTED};
 pub use spare::spare_rows;

@@ -5,6 +5,14 @@ use super::reading::Bindings;
 use super::rule::quantifiers_around;
 use super::table::{parent_of, Row};
 
+/// For each row, the fewest quantifiers around one that reaches it; none if no quantifier does.
+pub fn fewest_around(entries: &[Entry], rows: &[Row]) -> Vec<Option<usize>> {
+    let reach = Reach::new(entries, rows);
+    // The last of the bindings is the row itself.
+    let around = |row| reach.reaching(row).iter().map(|(_, bound)| bound.len() - 1).min();
+    (0..rows.len()).map(around).collect()
+}
+
 pub struct Reach<'a> {
     entries: &'a [Entry],
     rows: &'a [Row],

@@ -1,5 +1,6 @@
 //! Random rules, pools and files, accepted and damaged.
 
+mod chains;
 mod cost;
 mod damaged_file;
 mod damaged_rule;

@@ -32,6 +32,12 @@ impl NestedRule {
 }
 
 pub fn nested_rule(random: &mut Random, vocabulary: &Vocabulary) -> NestedRule {
+    nested_rule_along(random, vocabulary, 0)
+}
+
+/// So many percent of the quantifiers follow a chain of rows: each ranges under the one around it, over the
+/// name of its depth.
+pub fn nested_rule_along(random: &mut Random, vocabulary: &Vocabulary, chained: usize) -> NestedRule {
     let depths = depths(random);
     let deepest = depths.iter().copied().max().expect("a branch");
     let shape = RuleShape {
@@ -44,6 +50,7 @@ pub fn nested_rule(random: &mut Random, vocabulary: &Vocabulary) -> NestedRule {
     };
     let mut tree = Tree::new(random, vocabulary, shape);
     tree.branches(&depths, 0);
+    tree.follow_a_chain(chained);
     while tree.random.chance(40) {
         tree.use_a_variable_near();
     }
@@ -109,6 +116,17 @@ impl Tree<'_> {
             sides.reverse();
         }
         sides
+    }
+
+    fn follow_a_chain(&mut self, percent: usize) {
+        let quantifiers = self.nodes.iter_mut().filter(|node| matches!(node.words[0], 5 | 6));
+        for node in quantifiers {
+            if let Some(&name) = self.vocabulary.names.get(node.around) {
+                if self.random.chance(percent) {
+                    (node.words[2], node.words[3]) = (node.around as u32, name);
+                }
+            }
+        }
     }
 
     /// Makes one entry use the last variable that is bound there, or the first that is not; often one of the

@@ -71,7 +71,7 @@ pub struct Node {
 
 pub struct Tree<'a> {
     pub random: &'a mut Random,
-    vocabulary: &'a Vocabulary,
+    pub vocabulary: &'a Vocabulary,
     pub shape: RuleShape,
     pub nodes: Vec<Node>,
 }

@@ -1,9 +1,10 @@
 //! A rule and a pool that use the same names and values, and do not take long.
 
+use super::chains::chains;
 use super::cost::{reading_cost, verdict_cost};
 use super::damaged_rule::damaged_rule;
 use super::damaged_table::damaged_table;
-use super::nested::{nested_rule, NestedRule};
+use super::nested::{nested_rule, nested_rule_along, NestedRule};
 use super::pools::{pool_of, PoolShape};
 use super::rules::{rule_of, RuleShape, Sides};
 use super::vocabulary::Vocabulary;
@@ -93,6 +94,9 @@ fn device_of_roots(random: &mut Random, vocabulary: &Vocabulary) -> Vec<u32> {
 
 /// A rule about as nested as may be and an accepted table of a few rows, most often of one device.
 pub fn nested_rule_and_table(random: &mut Random, cost: u64) -> (NestedRule, Vec<u32>) {
+    if random.chance(30) {
+        return nested_rule_and_chains(random, cost);
+    }
     let names = random.between(1, 3) as u32;
     let vocabulary = Vocabulary { names: (1..=names).collect(), ..Vocabulary::new(random) };
     let rule = nested_rule(random, &vocabulary);
@@ -103,12 +107,35 @@ pub fn nested_rule_and_table(random: &mut Random, cost: u64) -> (NestedRule, Vec
         let chained = random.pick(&[40, 95]);
         let shape = PoolShape { devices, chained, ..PoolShape::with_rows(random, rows) };
         let table = pool_of(random, &vocabulary, shape);
-        if verdict_cost(&rule.words, &table).max(reading_cost(&rule.words, &table)) <= cost {
+        if takes(&rule, &table) <= cost {
             return (rule, table);
         }
         // No rule takes long without rows.
         rows /= 2;
     }
+}
+
+/// The innermost quantifiers of other rules seldom find rows: here most of them follow a chain that is about
+/// as long as quantifiers may be nested, and rows of that depth are theirs alone.
+fn nested_rule_and_chains(random: &mut Random, cost: u64) -> (NestedRule, Vec<u32>) {
+    let names = (1..=MOST_NESTED as u32 + 1).collect();
+    let vocabulary = Vocabulary { names, ..Vocabulary::new(random) };
+    let chained = random.pick(&[90, 100, 100]);
+    let rule = nested_rule_along(random, &vocabulary, chained);
+    let mut beside = random.below(10);
+    loop {
+        let length = MOST_NESTED + random.below(2);
+        let table = chains(random, &vocabulary, length, beside);
+        if takes(&rule, &table) <= cost {
+            return (rule, table);
+        }
+        // No rule takes long on the chain of one device alone.
+        beside /= 2;
+    }
+}
+
+fn takes(rule: &NestedRule, table: &[u32]) -> u64 {
+    verdict_cost(&rule.words, table).max(reading_cost(&rule.words, table))
 }
 
 /// An accepted rule, and the tables of devices whose rows together are accepted; some have no rows.
