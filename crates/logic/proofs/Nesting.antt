@@ -15,7 +15,7 @@ use Rattle.tables.specs.declared.Answer.the-variants.{Refused}
 use Rattle.tables.proofs.AcceptedRule as entries
 use Rattle.tables.proofs.AcceptedRule.{refused-entry, passed-entries}
 use Rattle.tables.proofs.Answers.{FirstAtFault}
-use Rattle.logic.specs.Formulas.{Formula, build, formulaAt, formula}
+use Rattle.logic.specs.Formulas.{Formula, joined, and, build, formulaAt, formula}
 use Rattle.logic.specs.Nesting.{levels, Limited, LevelsLimited}
 use Rattle.logic.proofs.Formulas.{later, later-is, formula-later, formula-at}
 use Rattle.logic.proofs.EntryTree.{parent-kind, parent-of}
@@ -25,15 +25,20 @@ two-sides : (d l x y : ℕ) → d + x ≤ l → d + y ≤ l → d + max x y ≤ 
 two-sides d l x y h g = let m : max x y ≤ l - d = max-le (omega arith) (omega arith) in omega arith
 
 module _ (a b c : ℕ) (f : ℕ → Formula) (d l : ℕ) (low : d ≤ l) where
+  -- kinds 2 to 4
+  connective : d + levels (f a) ≤ l → d + levels (f b) ≤ l → d + levels (joined and (f a) (f b)) ≤ l
+  unfolding levels
+  connective left right = omega (arith, left, right, two-sides d l (levels (f a)) (levels (f b)) left right)
+
   levels-build : (k : ℕ) → (1 ≤ k → k ≤ 4 → d + levels (f a) ≤ l) → (2 ≤ k → k ≤ 4 → d + levels (f b) ≤ l)
       → (5 ≤ k → k ≤ 6 → d + 1 + levels (f a) ≤ l)
       → d + levels (build (record { kind = k; a = a; b = b; c = c }) f) ≤ l
   unfolding levels
   levels-build zero left right body = omega arith
   levels-build (suc zero) left right body = left (omega arith) (omega arith)
-  levels-build (suc (suc zero)) left right body = two-sides d l _ _ (left (omega arith) (omega arith)) (right (omega arith) (omega arith))
-  levels-build (suc (suc (suc zero))) left right body = two-sides d l _ _ (left (omega arith) (omega arith)) (right (omega arith) (omega arith))
-  levels-build (suc (suc (suc (suc zero)))) left right body = two-sides d l _ _ (left (omega arith) (omega arith)) (right (omega arith) (omega arith))
+  levels-build (suc (suc zero)) left right body = connective (left (omega arith) (omega arith)) (right (omega arith) (omega arith))
+  levels-build (suc (suc (suc zero))) left right body = connective (left (omega arith) (omega arith)) (right (omega arith) (omega arith))
+  levels-build (suc (suc (suc (suc zero)))) left right body = connective (left (omega arith) (omega arith)) (right (omega arith) (omega arith))
   levels-build (suc (suc (suc (suc (suc zero))))) left right body = omega (arith, body (omega arith) (omega arith))
   levels-build (suc (suc (suc (suc (suc (suc zero)))))) left right body = omega (arith, body (omega arith) (omega arith))
   levels-build (suc (suc (suc (suc (suc (suc (suc zero))))))) left right body = omega arith
