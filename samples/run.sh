@@ -23,34 +23,35 @@ cases() {
     awk '{ sub(/#.*/, "") } NF { $1 = $1; print }' "$here/cases.txt"
 }
 
-# The files that the list names, one a line.
-files() { # folder, names joined by +
+# The rows of one device, or nothing where the list has no such device.
+rows() { # device
+    awk -v head="[$1]" '/^\[/ { on = $0 == head; next } on && NF' "$here/devices.txt"
+}
+
+# A pool: the first line of devices.txt that is no comment, then the rows of the devices in their order.
+pool() { # names joined by +
     local name
-    [ "$2" != - ] || return 0
-    for name in ${2//+/ }; do
-        echo "$here/$1/$name.txt"
+    awk '!/^#/ { print; exit }' "$here/devices.txt"
+    [ "$1" != none ] || return 0
+    for name in ${1//+/ }; do
+        if [ -z "$(rows "$name")" ]; then
+            echo "no device $name in samples/devices.txt" >&2
+            return 1
+        fi
+        rows "$name"
     done
 }
 
-# The rows of all devices under one first line. Bytes are kept: a last line may lack its end.
-join_devices() { # file..
-    if [ "$(head -q -n 1 "$@" | uniq | wc -l)" -ne 1 ]; then
-        echo "devices with different first lines, or none" >&2
-        return 1
-    fi
-    head -n 1 "$1" && tail -q -n +2 "$@"
-}
-
-# Writes a case's rule.txt and pool.txt.
+# Writes a case's rule.txt and pool.txt. A file of pools/ is taken byte for byte.
 lay_out() { # rule devices folder
-    local devices
     if [ "$1" != - ]; then
-        cp "$(files rules "$1")" "$3/rule.txt" || return
+        cp "$here/rules/$1.txt" "$3/rule.txt" || return
     fi
-    if [ "$2" != - ]; then
-        mapfile -t devices < <(files devices "$2")
-        join_devices "${devices[@]}" > "$3/pool.txt"
-    fi
+    case $2 in
+    -) ;;
+    pools/*) cp "$here/$2.txt" "$3/pool.txt" ;;
+    *) pool "$2" > "$3/pool.txt" ;;
+    esac
 }
 
 # Lays out the case of that name.
@@ -82,13 +83,19 @@ check() { # name rule devices prints
         diff -u --label expected --label found <(expected "$4") <(found "$work/$1")
 }
 
-# Files that no case uses.
+# Rules, devices and pools that no case uses.
 unused() {
     cases | while read -r _ rule devices _; do
-        files rules "$rule"
-        files devices "$devices"
+        echo "rules/$rule"
+        case $devices in
+        pools/*) echo "$devices" ;;
+        *) echo "device ${devices//+/$'\n'device }" ;;
+        esac
     done | sort > "$work/used"
-    find "$here/rules" "$here/devices" -type f | sort | comm -13 "$work/used" -
+    {
+        cd "$here" && find rules pools -type f | sed 's/\.txt$//'
+        sed -n 's/^\[\(.*\)\]$/device \1/p' devices.txt
+    } | sort | comm -13 "$work/used" -
 }
 
 check_all() {
@@ -103,7 +110,7 @@ check_all() {
     done < <(cases)
     while read -r file; do
         failed=$((failed + 1))
-        echo "no case uses ${file#"$here/"}"
+        echo "no case uses $file"
     done < <(unused)
     echo "samples: $passed passed, $failed failed"
     [ "$failed" -eq 0 ] && [ "$passed" -gt 0 ]
