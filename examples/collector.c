@@ -3,7 +3,9 @@
  *     collector RULE PART...
  *
  * RULE and each PART are files; the parts stand in the order of their devices. It prints the number of rows
- * joined, the verdict, and each marked row as device/at.
+ * joined, the verdict, the number of marked rows, and these in the table's order: device/at, name and value,
+ * indented by two spaces for each level of depth. A row has its depth in a word of its own, so it stands
+ * where it belongs though rows around it are not printed.
  */
 #include "files.h"
 
@@ -21,12 +23,29 @@ static size_t add_part(size_t used, const char *path)
     return accepted(gabzeril_join(pool, GABZERIL_TABLE_WORDS, used, part, length), path);
 }
 
+static size_t count_marked(size_t rows)
+{
+    size_t marked = 0;
+    for (size_t row = 0; row < rows; row++) {
+        marked += marks[row];
+    }
+    return marked;
+}
+
+/* The depth is less than GABZERIL_ROW_LIMIT, as the table is accepted. */
+static void print_row(const uint32_t *row)
+{
+    int indent = 2 * (int)row[GABZERIL_DEEP];
+    printf("%*s%u/%u ", indent, "", (unsigned)row[GABZERIL_DEVICE], (unsigned)row[GABZERIL_AT]);
+    printf("name %u value %u\n", (unsigned)row[GABZERIL_NAME], (unsigned)row[GABZERIL_VALUE]);
+}
+
 static void print_marked(size_t rows)
 {
+    printf("marked %zu\n", count_marked(rows));
     for (size_t row = 0; row < rows; row++) {
         if (marks[row] == 1) {
-            const uint32_t *words = pool + GABZERIL_ROW_WORDS * row;
-            printf("marked %u/%u\n", (unsigned)words[GABZERIL_DEVICE], (unsigned)words[GABZERIL_AT]);
+            print_row(pool + GABZERIL_ROW_WORDS * row);
         }
     }
 }

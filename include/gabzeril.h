@@ -3,7 +3,7 @@
  * This header is the reference of the calls. docs/MANUAL.md has rows, rules, files and refusals.
  *
  * Rules and tables are runs of 32-bit words that the caller lends: a rule has four words an entry
- * (kind a b c), a table five words a row (device at up name value). Lengths are in words for rules and
+ * (kind a b c), a table six words a row (device at up deep name value). Lengths are in words for rules and
  * tables, in bytes for files and marks. NULL with length 0 is an empty run. The library keeps no
  * pointer, allocates nothing and has no state: calls on different buffers may run side by side.
  * Buffers of one call must not overlap.
@@ -26,12 +26,12 @@ extern "C" {
 #endif
 
 /* The Makefile reads the version from this line. */
-#define GABZERIL_VERSION "0.2.0"
+#define GABZERIL_VERSION "0.3.0"
 
 /* Limits. */
 
 #define GABZERIL_ENTRY_WORDS 4   /* of an entry */
-#define GABZERIL_ROW_WORDS 5     /* of a row */
+#define GABZERIL_ROW_WORDS 6     /* of a row */
 #define GABZERIL_ENTRY_LIMIT 128 /* a rule has 1 to so many entries */
 #define GABZERIL_ROW_LIMIT 1024  /* a table has 0 to so many rows */
 #define GABZERIL_NESTING_LIMIT 6 /* so many quantifiers stand around one another at most */
@@ -45,12 +45,19 @@ extern "C" {
 #define GABZERIL_RULE_WORDS (GABZERIL_ENTRY_LIMIT * GABZERIL_ENTRY_WORDS) /* any rule */
 #define GABZERIL_TABLE_WORDS (GABZERIL_ROW_LIMIT * GABZERIL_ROW_WORDS)    /* any table, joined ones too */
 #define GABZERIL_RULE_FILE_BYTES 2187     /* the file of any rule: its first line, and 17 bytes an entry */
-#define GABZERIL_POOL_FILE_BYTES 35864    /* the file of any table: its first line, and 35 bytes a row */
+#define GABZERIL_POOL_FILE_BYTES 40989    /* the file of any table: its first line, and 40 bytes a row */
 #define GABZERIL_PROGRAM_FILE_BYTES 65536 /* the longest file that gabzeril_report and the program take */
 #define GABZERIL_REPORT_BYTES 64          /* any text of gabzeril_report */
 
-/* The columns of a row and of an entry. */
-enum gabzeril_row_column { GABZERIL_DEVICE, GABZERIL_AT, GABZERIL_UP, GABZERIL_NAME, GABZERIL_VALUE };
+/* The columns of a row and of an entry. deep is 0 at a root, else one more than the parent's. */
+enum gabzeril_row_column {
+    GABZERIL_DEVICE,
+    GABZERIL_AT,
+    GABZERIL_UP,
+    GABZERIL_DEEP,
+    GABZERIL_NAME,
+    GABZERIL_VALUE
+};
 enum gabzeril_entry_column { GABZERIL_KIND, GABZERIL_A, GABZERIL_B, GABZERIL_C };
 
 /* The kinds of entry. */
@@ -77,7 +84,8 @@ enum gabzeril_kind {
 /* What a device sends. */
 enum gabzeril_mode { GABZERIL_ALL = 1, GABZERIL_BRANCH = 2, GABZERIL_FULL = 3 };
 
-/* The numbers of the refusals. 15 is not used. */
+/* The numbers of the refusals. 15 and 20 to 25 are not used. A table is tested for 8, 9, 10, 11, 26 and 12, in
+ * this order; these are called "8 to 12 with 26" below. */
 enum gabzeril_refusal {
     GABZERIL_ACCEPTED = 0,
     GABZERIL_REFUSED_RULE_LENGTH = 1,
@@ -97,7 +105,8 @@ enum gabzeril_refusal {
     GABZERIL_REFUSED_JOIN = 16,
     GABZERIL_REFUSED_SHORT_OUTPUT = 17,
     GABZERIL_REFUSED_FIRST_LINE = 18,
-    GABZERIL_REFUSED_LINE = 19
+    GABZERIL_REFUSED_LINE = 19,
+    GABZERIL_REFUSED_DEPTH = 26
 };
 
 /* A refusal in words, for a message or a log. It belongs to this header and not to the library. */
@@ -124,6 +133,13 @@ static inline const char *gabzeril_refusal_text(uint32_t number)
         /* 17 */ "the output is shorter than the answer",
         /* 18 */ "the file's first line is wrong or not ended",
         /* 19 */ "a line of the file is not ended or not the right numbers",
+        /* 20 */ "not used",
+        /* 21 */ "not used",
+        /* 22 */ "not used",
+        /* 23 */ "not used",
+        /* 24 */ "not used",
+        /* 25 */ "not used",
+        /* 26 */ "deep is not 0 at a root, or not one more than the parent's",
     };
     return number < sizeof texts / sizeof texts[0] ? texts[number] : "unknown number";
 }
@@ -144,18 +160,18 @@ typedef struct gabzeril_span {
 /* Refusals 1 to 7. Value: the number of entries. */
 gabzeril_answer gabzeril_check_rule(const uint32_t *rule, size_t rule_length);
 
-/* Refusals 8 to 12. Value: the number of rows. */
+/* Refusals 8 to 12 with 26. Value: the number of rows. */
 gabzeril_answer gabzeril_check_table(const uint32_t *table, size_t table_length);
 
 /* Puts the table `second` behind the table that the first `used` words of `pool` hold. Refusals: 8 to 12
- * of the first table, 8 to 12 of the second, 16, 8 and 12 of the joined one, 17 if `pool` is too short;
- * `used` beyond `pool_length` is 8 at place 0. Value: the words of the joined table, `used` of the next
- * call.
+ * with 26 of the first table, the same of the second, 16, 8 and 12 of the joined one, 17 if `pool` is too
+ * short; `used` beyond `pool_length` is 8 at place 0. Value: the words of the joined table, `used` of the
+ * next call.
  *
  * The place is a row of the table at fault: of the first, of the second, or of the joined one, which counts
- * from the first table's first row. Where the first table is accepted, as after a joining, 9, 10 and 11 are
- * the second's, and gabzeril_check_table on `second` alone tells whether 8 and 12 are its own too. 12 of the
- * joined table is at a root of the second. */
+ * from the first table's first row. Where the first table is accepted, as after a joining, 9, 10, 11 and 26
+ * are the second's, and gabzeril_check_table on `second` alone tells whether 8 and 12 are its own too. 12 of
+ * the joined table is at a root of the second. */
 gabzeril_answer gabzeril_join(uint32_t *pool, size_t pool_length, size_t used,
                               const uint32_t *second, size_t second_length);
 
@@ -177,24 +193,26 @@ gabzeril_answer gabzeril_write_rule(const uint32_t *rule, size_t rule_length,
 gabzeril_answer gabzeril_write_pool(const uint32_t *table, size_t table_length,
                                     uint8_t *file, size_t file_length);
 
-/* The verdict of the rule on the pool. Refusals 1 to 12. Value: 1 true, 0 false. */
+/* The verdict of the rule on the pool. Refusals 1 to 7, 8 to 12 with 26. Value: 1 true, 0 false. */
 gabzeril_answer gabzeril_verdict(const uint32_t *rule, size_t rule_length,
                                  const uint32_t *pool, size_t pool_length);
 
-/* The same, and a byte for each row of the pool: 1 if it is marked, else 0. Refusals 1 to 12, 17. */
+/* The same, and a byte for each row of the pool: 1 if it is marked, else 0. Refusals 1 to 7, 8 to 12 with 26,
+ * 17. */
 gabzeril_answer gabzeril_marks(const uint32_t *rule, size_t rule_length,
                                const uint32_t *pool, size_t pool_length,
                                uint8_t *marks, size_t marks_length);
 
-/* The rows that one device sends: all (mode 1), its branch part (2), its full part (3). Refusals 1 to 12,
- * 13, 14, 17. Value: the number of rows sent; the part has GABZERIL_ROW_WORDS times as many words. */
+/* The rows that one device sends: all (mode 1), its branch part (2), its full part (3). Refusals 1 to 7, 8 to
+ * 12 with 26, 13, 14, 17. Value: the number of rows sent; the part has GABZERIL_ROW_WORDS times as many
+ * words. */
 gabzeril_answer gabzeril_part(const uint32_t *rule, size_t rule_length,
                               const uint32_t *table, size_t table_length, uint32_t mode,
                               uint32_t *part, size_t part_length);
 
 /* The verdict of a rule file on a pool file: 0 false, 1 true, or 100 plus the refusal. Refusals in the
- * order: rule file (18, 19), rule (1 to 7), pool file (18, 19), pool (8 to 12); a file with too many
- * lines is 1 or 8 after its 19. */
+ * order: rule file (18, 19), rule (1 to 7), pool file (18, 19), pool (8 to 12 with 26); a file with too
+ * many lines is 1 or 8 after its 19. */
 uint32_t gabzeril_check_files(const uint8_t *rule_file, size_t rule_file_length,
                               const uint8_t *pool_file, size_t pool_file_length);
 

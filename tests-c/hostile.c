@@ -9,7 +9,8 @@
  * during the call: an access outside a buffer, or a write to an input, ends the program. That this happens is
  * tried first, in child processes. The sanitizers watch this harness itself.
  *
- * Each answer is compared with the calls that it stands for: reading, checking, verdict.
+ * Each answer is compared with the calls that it stands for: reading, checking, verdict. A run of many cases
+ * must meet every answer that there is.
  */
 #define _DEFAULT_SOURCE
 
@@ -28,16 +29,19 @@
 #endif
 
 enum {
+    ROW_WORDS = GABZERIL_ROW_WORDS,
     RULE_WORDS = GABZERIL_RULE_WORDS,
     POOL_WORDS = GABZERIL_TABLE_WORDS,
     PROGRAM_BYTES = GABZERIL_PROGRAM_FILE_BYTES,
     TEXT_BYTES = GABZERIL_REPORT_BYTES,
     FILE_BYTES = 100000, /* the longest file made here */
-    FILLED = 0xa5        /* every byte of an output before the call */
+    FILLED = 0xa5,       /* every byte of an output before the call */
+    MANY_CASES = 50000   /* so many must meet every answer */
 };
 
 static const char rule_line[] = "kind a b c\n";
-static const char pool_line[] = "device at up name value\n";
+static const char pool_line[] = "device at up deep name value\n";
+static const char pool_row[] = "1 1 0 0 1 1\n";
 
 /* Random numbers: splitmix64. */
 
@@ -211,29 +215,39 @@ static void deep_rule(struct rule *rule)
     rule->entries = depth + 1;
 }
 
-/* Up to `most_rows` rows of rising devices and places; few names and values, so that all checks are met. */
-static void add_rows(struct file *file, uint32_t most_rows)
+/* Rows. */
+
+static void add_row(struct file *file, uint32_t device, uint32_t at, uint32_t up, uint32_t deep, uint32_t value)
 {
+    uint32_t words[ROW_WORDS] = {device, at, up, deep, 1 + below(3), value};
+    add_words(file, words, ROW_WORDS);
+}
+
+/* Rows of rising devices and places; few names and values, so that all checks are met. */
+static void add_rows(struct file *file, uint32_t rows)
+{
+    uint32_t deep[GABZERIL_ROW_LIMIT + 1]; /* of the device's rows, by at */
     uint32_t device = 1, at = 0, spread = chance(50) ? 5 : 2000;
-    for (uint32_t row = 0; row < most_rows; row++) {
+    for (uint32_t row = 0; row < rows; row++) {
         if (chance(25)) {
             device += 1 + below(2);
             at = 0;
         }
         at++;
         uint32_t up = chance(30) ? 0 : below(at);
-        uint32_t words[5] = {device, at, up, 1 + below(3), below(spread)};
-        add_words(file, words, 5);
+        deep[at] = up == 0 ? 0 : deep[up] + 1;
+        add_row(file, device, at, up, deep[at], below(spread));
     }
 }
 
-/* Distinct roots or children of one root, about as many as a table may have. */
+/* About as many rows as a table may have: distinct roots, children of one root, or each under the last. */
 static void add_many_rows(struct file *file)
 {
-    uint32_t rows = 1020 + below(8), flat = below(2);
+    uint32_t rows = GABZERIL_ROW_LIMIT - 4 + below(8), shape = below(3);
     for (uint32_t row = 0; row < rows; row++) {
-        uint32_t words[5] = {1, row + 1, flat || row == 0 ? 0 : 1, 1 + below(3), row};
-        add_words(file, words, 5);
+        uint32_t up = shape == 0 || row == 0 ? 0 : shape == 1 ? 1 : row;
+        uint32_t deep = up; /* in all three */
+        add_row(file, 1, row + 1, up, deep, row);
     }
 }
 
@@ -241,7 +255,8 @@ static void add_many_rows(struct file *file)
 
 static const char *const pieces[] = {" ", "  ", "\n", "\n\n", "\r\n", "\t", "\0", "0", "9", "-1", "+1",
                                      "4294967295", "4294967296", "18446744073709551616", "2147483648",
-                                     "65536", "00", "1 1 1 1\n", "1 1 0 1 1\n", rule_line, pool_line};
+                                     "65536", "00", "1 1 1 1\n", "1 1 0 1 1\n", pool_row, rule_line,
+                                     pool_line};
 
 static void remove_bytes(struct file *file, size_t at, size_t length)
 {
@@ -288,6 +303,26 @@ static void insert_piece(struct file *file, size_t at)
     insert_bytes(file, at, piece, strlen(piece) + (piece[0] == '\0'));
 }
 
+/* Another fourth number in a line: the depth of a row, c of an entry. */
+static void change_fourth(struct file *file, size_t inside)
+{
+    static const char *const numbers[] = {"0", "1", "2", "3", "1023", "4294967295"};
+    const char *number = numbers[below(sizeof numbers / sizeof numbers[0])];
+    size_t start, length, first = 0, spaces = 0;
+    line_around(file, inside, &start, &length);
+    while (first < length && spaces < 3) {
+        spaces += file->bytes[start + first++] == ' ';
+    }
+    size_t end = first;
+    while (end < length && file->bytes[start + end] != ' ' && file->bytes[start + end] != '\n') {
+        end++;
+    }
+    if (spaces == 3) {
+        remove_bytes(file, start + first, end - first);
+        insert_bytes(file, start + first, number, strlen(number));
+    }
+}
+
 static void random_bytes(struct file *file)
 {
     file->length = below(300);
@@ -300,7 +335,7 @@ static void damage_once(struct file *file)
 {
     size_t at = below(file->length + 1), start, length;
     int inside = at < file->length;
-    switch (below(12)) {
+    switch (below(13)) {
     case 0:
         random_bytes(file);
         break;
@@ -330,6 +365,9 @@ static void damage_once(struct file *file)
         if (inside) {
             file->bytes[at] = (uint8_t)draw();
         }
+        break;
+    case 9:
+        change_fourth(file, at);
         break;
     default:
         if (inside && file->bytes[at] >= '0' && file->bytes[at] <= '9') {
@@ -380,7 +418,7 @@ static void make_files(void)
         add_words(&rule_file, rule.words + 4 * at, 4);
     }
     if (chance(1)) {
-        lengthen(chance(50) ? &rule_file : &pool_file, chance(50) ? "1 2 0 0\n" : "1 1 0 1 1\n");
+        lengthen(chance(50) ? &rule_file : &pool_file, chance(50) ? "1 2 0 0\n" : pool_row);
     }
 }
 
@@ -461,7 +499,7 @@ static int report_agrees(const void *rule_bytes, const void *pool_bytes)
 
 static int is_answer(uint32_t answer)
 {
-    return answer <= 1 || (answer >= 101 && answer <= 112) || answer == 118 || answer == 119;
+    return answer <= 1 || (answer >= 101 && answer <= 112) || answer == 118 || answer == 119 || answer == 126;
 }
 
 /* Begins a line about the running case, with the numbers that run it again. */
@@ -470,7 +508,7 @@ static void print_case(FILE *stream)
     fprintf(stream, "seed %llu, case %lu: ", (unsigned long long)case_seed, case_number);
 }
 
-static unsigned long seen[120];
+static unsigned long seen[127];
 
 /* Runs one case; 1 if all is as it should be. */
 static int run_case(uint64_t seed, unsigned long number)
@@ -557,6 +595,19 @@ static void print_seen(void)
     printf("\n");
 }
 
+/* How many answers no case gave. */
+static unsigned long count_unseen(void)
+{
+    unsigned long unseen = 0;
+    for (uint32_t answer = 0; answer < sizeof seen / sizeof seen[0]; answer++) {
+        if (is_answer(answer) && seen[answer] == 0) {
+            printf("no case gave the answer %u\n", (unsigned)answer);
+            unseen++;
+        }
+    }
+    return unseen;
+}
+
 int main(int argc, char **argv)
 {
     unsigned long cases = argc > 1 ? strtoul(argv[1], NULL, 10) : 100000;
@@ -578,6 +629,9 @@ int main(int argc, char **argv)
         failed += (unsigned long)!good;
     }
     print_seen();
+    if (cases >= MANY_CASES) {
+        failed += count_unseen();
+    }
     printf("hostile: %lu passed, %lu failed\n", passed, failed);
     return failed != 0 || passed == 0;
 }

@@ -1,11 +1,11 @@
 //! The cases, in the order in which they are printed.
 
-use gabzeril_tests::checker::{POOL, RULE};
+use gabzeril_tests::checker::{rows_of, words_of, POOL, ROW_WORDS, RULE};
 
 use crate::calls::Call;
 use crate::inputs::{
-    children_in_one_chain, deep, devices, early, gathered, late, names_in_one_chain, one_device, roots,
-    roots_in_one_chain, A, B, C,
+    children_in_one_chain, deep, devices, early, gathered, late, names_in_one_chain, one_device, path, roots,
+    roots_in_one_chain, with_no_parent, with_wrong_depth, A, B, C,
 };
 
 pub struct Case {
@@ -39,6 +39,8 @@ fn marks(rule: &[u32], pool: Vec<u32>) -> Call {
 
 pub const THREE_ROWS: &str = "devices of three rows";
 pub const ONE_DEVICE: &str = "one device";
+/// Each row hangs under the one before.
+const PATH: &str = "one path of rows";
 pub const A_TRUE: &str = "rule A true, devices of three rows";
 pub const B_TRUE: &str = "rule B true, devices of three rows";
 pub const C_TRUE: &str = "rule C true, one device";
@@ -77,7 +79,23 @@ pub fn all() -> Vec<Case> {
     for rows in [64, 256, 1_024] {
         on_roots(&mut cases, rows);
     }
+    for rows in [512, 1_024] {
+        refused_at_the_last_row(&mut cases, rows);
+    }
     cases
+}
+
+/// The parent's depth is looked at for every row, and each of these tables is refused by its last.
+fn refused_at_the_last_row(cases: &mut Vec<Case>, rows: u32) {
+    for (table, on) in [(devices(rows, 1), THREE_ROWS), (one_device(rows), ONE_DEVICE), (path(rows), PATH)] {
+        let mut add = |table: Vec<u32>, number: u32| {
+            let on = format!("{on}, refused with {number} at the last row");
+            cases.push(case(Call::CheckTable { table }, on, rows));
+        };
+        add(with_no_parent(&table), 11);
+        add(with_wrong_depth(&table), 26);
+    }
+    cases.push(case(Call::CheckTable { table: path(rows) }, PATH, rows));
 }
 
 fn on_devices(cases: &mut Vec<Case>, rows: u32) {
@@ -99,19 +117,22 @@ fn on_devices(cases: &mut Vec<Case>, rows: u32) {
 
 /// The first half of the devices and the second, joined.
 fn join_halves(pool: &[u32]) -> Call {
-    let devices = pool[pool.len() - 5];
-    join_from(pool, devices / 2 + 1)
+    join_from(pool, last_device(pool) / 2 + 1)
 }
 
 /// The last device behind all others: what a collector does for each switch.
 fn join_last(pool: &[u32]) -> Call {
-    join_from(pool, pool[pool.len() - 5])
+    join_from(pool, last_device(pool))
+}
+
+fn last_device(pool: &[u32]) -> u32 {
+    rows_of(pool).last().expect("a row").device
 }
 
 fn join_from(pool: &[u32], device: u32) -> Call {
-    let rows = pool.chunks(5).take_while(|row| row[0] < device).count();
-    let (first, second) = pool.split_at(5 * rows);
-    Call::Join { first: first.to_vec(), second: second.to_vec() }
+    let rows = rows_of(pool);
+    let (first, second) = rows.split_at(rows.partition_point(|row| row.device < device));
+    Call::Join { first: words_of(first), second: words_of(second) }
 }
 
 fn on_one_device(cases: &mut Vec<Case>, rows: u32) {
@@ -138,6 +159,6 @@ fn on_roots(cases: &mut Vec<Case>, rows: u32) {
 fn parts(cases: &mut Vec<Case>, rule: &[u32], table: &[u32], on: &str) {
     for mode in 1..=3 {
         let call = Call::Part { rule: rule.to_vec(), table: table.to_vec(), mode };
-        cases.push(case(call, on, table.len() as u32 / 5));
+        cases.push(case(call, on, (table.len() / ROW_WORDS) as u32));
     }
 }

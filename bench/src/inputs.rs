@@ -1,6 +1,6 @@
 //! Rules and pools of the benchmark.
 
-use gabzeril_tests::checker::{ENTRY_WORDS, MOST_NAME, MOST_NESTED, MOST_VALUE};
+use gabzeril_tests::checker::{rows_of, words_of, Row, ENTRY_WORDS, MOST_NAME, MOST_NESTED, MOST_VALUE};
 
 /// Rule A of the contract: each device is client or server.
 pub const A: [u32; 24] = [5, 1, 0, 1, 3, 2, 4, 0, 6, 3, 1, 2, 7, 1, 1, 1, 6, 5, 1, 2, 7, 1, 1, 2];
@@ -24,12 +24,21 @@ pub fn devices(rows: u32, servers: u32) -> Vec<u32> {
     let mut pool = vec![];
     for device in 1..=count {
         let mode = if device > count - servers { SERVER } else { CLIENT };
-        pool.extend([device, 1, 0, 1, 1_000 + device]);
-        pool.extend([device, 2, 1, 2, mode]);
+        let root = root(device, 1, 1, 1_000 + device);
+        pool.extend([root, under(&root, 2, 2, mode)]);
         let interfaces = if device == 1 { 1 + rows % 3 } else { 1 };
-        pool.extend((0..interfaces).flat_map(|i| [device, 3 + i, 1, 3, 100 + i]));
+        pool.extend((0..interfaces).map(|i| under(&root, 3 + i, 3, 100 + i)));
     }
-    pool
+    words_of(&pool)
+}
+
+fn root(device: u32, at: u32, name: u32, value: u32) -> Row {
+    Row { device, at, up: 0, deep: 0, name, value }
+}
+
+/// A row of the same device under this one.
+fn under(parent: &Row, at: u32, name: u32, value: u32) -> Row {
+    Row { device: parent.device, at, up: parent.at, deep: parent.deep + 1, name, value }
 }
 
 /// One device: a root, its mode, interfaces, addresses under them and leaves under those, each interface
@@ -38,38 +47,65 @@ pub fn one_device(rows: u32) -> Vec<u32> {
     let interfaces = (rows - 2) * 300 / 1_019;
     let addresses = (rows - 2 - interfaces).div_ceil(2);
     let leaves = rows - 2 - interfaces - addresses;
-    let mut table = vec![1, 1, 0, 1, 11, 1, 2, 1, 2, SERVER];
-    let (mut at, mut address) = (2, 0);
-    let mut add = |table: &mut Vec<u32>, up: u32, name: u32| {
-        at += 1;
-        table.extend([1, at, up, name, 1_000 + at]);
-        at
+    let root = root(1, 1, 1, 11);
+    let mut table = vec![root, under(&root, 2, 2, SERVER)];
+    let mut address = 0;
+    let add = |table: &mut Vec<Row>, parent: &Row, name: u32| {
+        let at = table.len() as u32 + 1;
+        let row = under(parent, at, name, 1_000 + at);
+        table.push(row);
+        row
     };
     for interface in 0..interfaces {
-        let up = add(&mut table, 1, 3);
+        let row = add(&mut table, &root, 3);
         // The addresses are spread evenly over the interfaces.
         while address < (interface + 1) * addresses / interfaces {
-            let up = add(&mut table, up, 4);
+            let row = add(&mut table, &row, 4);
             if address < leaves {
-                add(&mut table, up, 5);
+                add(&mut table, &row, 5);
             }
             address += 1;
         }
     }
-    table
+    words_of(&table)
+}
+
+/// One device in which each row hangs under the one before.
+pub fn path(rows: u32) -> Vec<u32> {
+    let next = |row: &Row| Some(under(row, row.at + 1, 1, row.value + 1));
+    let rows: Vec<Row> = std::iter::successors(Some(root(1, 1, 1, 0)), next).take(rows as usize).collect();
+    words_of(&rows)
+}
+
+/// Refused with 26 at the last row, which is one deeper than it should be.
+pub fn with_wrong_depth(table: &[u32]) -> Vec<u32> {
+    with_last_row(table, |row| row.deep += 1)
+}
+
+/// Refused with 11 at the last row, which names itself as its parent.
+pub fn with_no_parent(table: &[u32]) -> Vec<u32> {
+    with_last_row(table, |row| row.up = row.at)
+}
+
+fn with_last_row(table: &[u32], change: impl FnOnce(&mut Row)) -> Vec<u32> {
+    let mut rows = rows_of(table);
+    change(rows.last_mut().expect("a row"));
+    words_of(&rows)
 }
 
 /// The rows of `devices(rows, 1)` in one device.
 pub fn gathered(rows: u32) -> Vec<u32> {
-    let (mut table, mut root) = (vec![], 0);
-    for (row, words) in (1..).zip(devices(rows, 1).chunks(5)) {
-        if words[2] == 0 {
-            root = row;
+    let mut table = rows_of(&devices(rows, 1));
+    let mut root = 0;
+    for (at, row) in (1..).zip(&mut table) {
+        if row.is_root() {
+            root = at;
+        } else {
+            row.up = root;
         }
-        let up = if words[2] == 0 { 0 } else { root };
-        table.extend([1, row, up, words[3], words[4]]);
+        (row.device, row.at) = (1, at);
     }
-    table
+    words_of(&table)
 }
 
 /// Roots of one device with distinct values: 0, `step`, and so on.
@@ -87,7 +123,9 @@ pub fn roots_in_one_chain(rows: u32) -> Vec<u32> {
 pub fn names_in_one_chain(rows: u32) -> Vec<u32> {
     let pairs = (0..).flat_map(|value| (1..=MOST_NAME).map(move |name| (name, value)));
     let all = pairs.filter(|&(name, value)| hash(0, 0, name, value) == hash(0, 0, 1, 0));
-    (1..).zip(all.take(rows as usize)).flat_map(|(at, (name, value))| [1, at, 0, name, value]).collect()
+    let rows: Vec<Row> =
+        (1..).zip(all.take(rows as usize)).map(|(at, (name, value))| root(1, at, name, value)).collect();
+    words_of(&rows)
 }
 
 /// Roots with a child each; the children have one name and value, and equal hashes in check 12.
@@ -99,18 +137,20 @@ pub fn children_in_one_chain(rows: u32) -> Vec<u32> {
             if at < free {
                 continue;
             }
-            if table.len() == 5 * rows as usize {
-                return table;
+            if table.len() == rows as usize {
+                return words_of(&table);
             }
-            table.extend([device, at, 0, 1, table.len() as u32, device, at + 1, at, 2, 7]);
+            let root = root(device, at, 1, table.len() as u32);
+            table.extend([root, under(&root, at + 1, 2, 7)]);
             free = at + 2;
         }
     }
-    table
+    words_of(&table)
 }
 
 fn roots_of(values: impl Iterator<Item = u32>) -> Vec<u32> {
-    (1..).zip(values).flat_map(|(at, value)| [1, at, 0, 1, value]).collect()
+    let rows: Vec<Row> = (1..).zip(values).map(|(at, value)| root(1, at, 1, value)).collect();
+    words_of(&rows)
 }
 
 /// `hash_of` in crates/tables/src/chains.rt.
@@ -191,9 +231,15 @@ mod tests {
                 roots(rows, 1_024),
                 roots_in_one_chain(rows),
                 names_in_one_chain(rows),
+                path(rows),
             ];
             for table in tables {
                 assert_eq!(check_table(&table), Answer::Done(rows as usize));
+            }
+            for table in [devices(rows, 1), one_device(rows), path(rows)] {
+                let last = rows as usize - 1;
+                assert_eq!(check_table(&with_wrong_depth(&table)), Answer::refused(26, last));
+                assert_eq!(check_table(&with_no_parent(&table)), Answer::refused(11, last));
             }
             assert_eq!(check_rule(&deep(rows)), Answer::Done(3 * MOST_NESTED - 1));
             assert_eq!(check_rule(&late(rows)), Answer::Done(4 * MOST_NESTED - 2));
@@ -217,7 +263,7 @@ mod tests {
     #[test]
     fn the_large_device_has_300_interfaces() {
         let table = one_device(1_021);
-        let named = |name| table.chunks(5).filter(|row| row[3] == name).count();
+        let named = |name| rows_of(&table).iter().filter(|row| row.name == name).count();
         assert_eq!([3, 4, 5].map(named), [300, 360, 359]);
     }
 }

@@ -2,7 +2,7 @@
 //! Table 6, beside its Table 7. Each device makes its part apart; the parts are joined.
 
 use gabzeril_tests::answer::Answer;
-use gabzeril_tests::checker::{MOST_ROWS, ROW_WORDS};
+use gabzeril_tests::checker::{words_of, Row, MOST_ROWS, ROW_WORDS};
 use gabzeril_tests::ffi;
 use gabzeril_tests::random::Random;
 
@@ -165,24 +165,26 @@ fn joined(parts: &[Vec<u32>]) -> Option<Vec<u32>> {
 /// The rows of one device while they are made.
 struct Device {
     number: u32,
-    rows: Vec<u32>,
+    rows: Vec<Row>,
 }
 
 impl Device {
     /// Adds a row and gives its place `at`.
     fn add(&mut self, up: u32, name: u32, value: u32) -> u32 {
-        let at = (self.rows.len() / ROW_WORDS) as u32 + 1;
-        self.rows.extend([self.number, at, up, name, value]);
+        let at = self.rows.len() as u32 + 1;
+        let parent = self.rows.iter().find(|row| row.at == up);
+        let deep = parent.map_or(0, |parent| parent.deep + 1);
+        self.rows.push(Row { device: self.number, at, up, deep, name, value });
         at
     }
 
     /// A value that no other row of the pool has.
     fn own_value(&self) -> u32 {
-        self.number * 1_000 + (self.rows.len() / ROW_WORDS) as u32
+        self.number * 1_000 + self.rows.len() as u32
     }
 
     fn has_sibling(&self, up: u32, name: u32, value: u32) -> bool {
-        self.rows.chunks(ROW_WORDS).any(|row| row[2..] == [up, name, value])
+        self.rows.iter().any(|row| [row.up, row.name, row.value] == [up, name, value])
     }
 }
 
@@ -191,8 +193,8 @@ fn device_of(random: &mut Random, number: u32, nodes: usize, kind: Nodes, raised
     if kind != Nodes::All {
         add_named(random, &mut device, nodes, kind, raised);
     }
-    while device.rows.len() / ROW_WORDS < nodes {
-        let at = random.below(device.rows.len() / ROW_WORDS + 1) as u32;
+    while device.rows.len() < nodes {
+        let at = random.below(device.rows.len() + 1) as u32;
         let up = if random.chance(20) { 0 } else { at };
         if kind == Nodes::All {
             let name = random.between(1, LAST_NAME) as u32;
@@ -204,7 +206,7 @@ fn device_of(random: &mut Random, number: u32, nodes: usize, kind: Nodes, raised
             device.add(up, random.between(6, LAST_NAME) as u32, device.own_value());
         }
     }
-    device.rows
+    words_of(&device.rows)
 }
 
 /// Two d with an a and a b each, an e with a c; one d where there are only five nodes.

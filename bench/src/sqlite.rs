@@ -5,7 +5,7 @@ use std::hint::black_box;
 use std::ptr::{null, null_mut};
 
 use gabzeril_tests::answer::Answer;
-use gabzeril_tests::checker::{POOL, RULE};
+use gabzeril_tests::checker::{POOL, ROW_WORDS, RULE};
 use gabzeril_tests::ffi;
 
 use crate::clock::best_microseconds;
@@ -34,12 +34,13 @@ fn rule_b() -> String {
     )
 }
 
-const TABLE: &str = "CREATE TABLE row (device INTEGER, at INTEGER, up INTEGER, name INTEGER, value INTEGER)";
+const TABLE: &str = "CREATE TABLE row (device INTEGER, at INTEGER, up INTEGER, deep INTEGER, name INTEGER, \
+                     value INTEGER)";
 const INDEXES: [&str; 2] = [
     "CREATE INDEX row_of_roots ON row (up, name, device, at, value)",
     "CREATE INDEX row_under_parent ON row (device, up, name, value)",
 ];
-const INSERT: &str = "INSERT INTO row VALUES (?, ?, ?, ?, ?)";
+const INSERT: &str = "INSERT INTO row VALUES (?, ?, ?, ?, ?, ?)";
 
 pub fn print() {
     println!("## SQLite\n");
@@ -155,7 +156,7 @@ impl<'a> Database<'a> {
         database.execute(TABLE);
         database.execute("BEGIN");
         let insert = database.prepare(INSERT);
-        for row in pool.chunks(5) {
+        for row in pool.chunks(ROW_WORDS) {
             insert.insert(row);
         }
         drop(insert);

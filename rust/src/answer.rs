@@ -27,7 +27,7 @@ impl Answer {
     pub fn from_words(number: u32, place: usize, value: usize) -> Answer {
         match (number, place, value) {
             (0, 0, value) => Answer::Done(value),
-            (1..=14 | 16..=19, place, 0) => Answer::refused(number, place),
+            (number, place, 0) if is_refusal(number) => Answer::refused(number, place),
             _ => Answer::Malformed { number, place, value },
         }
     }
@@ -51,10 +51,31 @@ impl From<Result<usize, Refusal>> for Answer {
     }
 }
 
+/// Whether a refusal may have this number. 15 is retired, and 20 to 25 are not used.
+pub fn is_refusal(number: u32) -> bool {
+    matches!(number, 1..=14 | 16..=19 | 26)
+}
+
 /// Where the rows of one device stand, in words.
 #[repr(C)]
 #[derive(Clone, Copy, Debug, PartialEq, Eq)]
 pub struct Span {
     pub start: usize,
     pub length: usize,
+}
+
+#[cfg(test)]
+mod tests {
+    use super::*;
+
+    #[test]
+    fn unused_numbers_are_no_answers() {
+        for number in [15, 20, 21, 22, 23, 24, 25, 27, 100, 126] {
+            let malformed = Answer::Malformed { number, place: 0, value: 0 };
+            assert_eq!(Answer::from_words(number, 0, 0), malformed);
+        }
+        for number in (1..=14).chain(16..=19).chain([26]) {
+            assert_eq!(Answer::from_words(number, 3, 0), Answer::refused(number, 3));
+        }
+    }
 }

@@ -2,7 +2,7 @@
 //! against the dump of the same devices.
 
 use crate::answer::{Answer, Refusal};
-use crate::checker::{accepted_rule, accepted_table, spare_rows, ROW_WORDS};
+use crate::checker::{accepted_rule, accepted_table, rows_of, spare_rows, ROW_WORDS};
 use crate::random::Random;
 
 /// The calls under test.
@@ -77,7 +77,7 @@ fn other_cut(random: &mut Random, rule: &[u32], device: &[u32]) -> Vec<u32> {
         let parent_sent = row.is_root() || sent.contains(&row.up);
         if parent_sent && !(spare && random.chance(50)) {
             sent.push(row.at);
-            cut.extend([row.device, row.at, row.up, row.name, row.value]);
+            cut.extend(row.words());
         }
     }
     cut
@@ -138,8 +138,8 @@ impl Joined {
 
 /// Device and at of each marked row.
 fn marked(table: &[u32], marks: &[u8]) -> Vec<[u32; 2]> {
-    let rows = table.chunks(ROW_WORDS).zip(marks).filter(|(_, mark)| **mark == 1);
-    rows.map(|(row, _)| [row[0], row[1]]).collect()
+    let rows = rows_of(table).into_iter().zip(marks).filter(|(_, mark)| **mark == 1);
+    rows.map(|(row, _)| [row.device, row.at]).collect()
 }
 
 #[cfg(test)]

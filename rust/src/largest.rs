@@ -1,6 +1,6 @@
 //! The largest accepted inputs, for calls on a small stack.
 
-use crate::checker::{MOST_ENTRIES, MOST_NAME, MOST_NESTED, MOST_ROWS, MOST_VALUE};
+use crate::checker::{words_of, Row, MOST_ENTRIES, MOST_NAME, MOST_NESTED, MOST_ROWS, MOST_VALUE};
 
 const COMMON: u32 = 1;
 /// The name of the rows at the end of a table.
@@ -144,21 +144,27 @@ pub fn table_of_ends() -> Vec<u32> {
 
 /// Up and name of each row are given; its value is its place.
 fn table(up_and_name: impl Fn(u32) -> [u32; 2]) -> Vec<u32> {
-    let row = |row: u32| {
-        let [up, name] = up_and_name(row);
-        [1, row + 1, up, name, row]
-    };
-    (0..MOST_ROWS as u32).flat_map(row).collect()
+    let mut rows: Vec<Row> = vec![];
+    for value in 0..MOST_ROWS as u32 {
+        let [up, name] = up_and_name(value);
+        // The at of a row is one more than its place.
+        let deep = up.checked_sub(1).map_or(0, |parent| rows[parent as usize].deep + 1);
+        rows.push(Row { device: 1, at: value + 1, up, deep, name, value });
+    }
+    words_of(&rows)
 }
 
-/// The accepted pool with the longest file: every word has as many digits as it can.
+/// The accepted pool with the longest file: every word has as many digits as it can. Each row hangs under the
+/// one before, so that none is less deep than it might be.
 pub fn longest_pool() -> Vec<u32> {
     let most = MOST_ROWS as u32;
-    let row = |row: u32| {
-        let at = MOST_NAME - most + 1 + row;
-        [MOST_NAME, at, if row == 0 { 0 } else { at - 1 }, MOST_NAME, MOST_VALUE - row]
+    let row = |deep: u32| {
+        let at = MOST_NAME - most + 1 + deep;
+        let up = if deep == 0 { 0 } else { at - 1 };
+        Row { device: MOST_NAME, at, up, deep, name: MOST_NAME, value: MOST_VALUE - deep }
     };
-    (0..most).flat_map(row).collect()
+    let rows: Vec<Row> = (0..most).map(row).collect();
+    words_of(&rows)
 }
 
 #[cfg(test)]

@@ -36,5 +36,6 @@ fn refused_rules_and_pools() {
         let output = case.random.bytes(length);
         calls::marks(case, &rule, &pool, &output);
     });
-    tally.saw_each(1..=12, 300);
+    tally.saw_each(RULE_FAULTS, 300);
+    tally.saw_each(TABLE_FAULTS, 300);
 }

@@ -45,7 +45,9 @@ fn files_of_any_tables() {
             calls::check_files(case, &rule, &pool);
         }
     });
-    tally.saw_each((0..=12).chain(18..=19), 100);
+    tally.saw_each([0, 18, 19], 100);
+    tally.saw_each(RULE_FAULTS, 100);
+    tally.saw_each(TABLE_FAULTS, 100);
     tally.saw_both_values(1_000);
 }
 

@@ -77,7 +77,8 @@ fn writing_pools() {
         let output = case.random.bytes(bytes + 20);
         calls::write_pool(case, &damaged, &output);
     });
-    tally.saw_each([0, 8, 9, 10, 11, 12, 17], 100);
+    tally.saw_each([0, 17], 100);
+    tally.saw_each(TABLE_FAULTS, 100);
 }
 
 /// What was written is read back; a file of more lines than a table may have is read as well.

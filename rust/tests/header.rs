@@ -13,7 +13,7 @@ use gabzeril_tests::largest;
 type Numbers = BTreeMap<String, u64>;
 
 /// A table of two roots on different devices.
-const TWO_DEVICES: [u32; 10] = [1, 1, 0, 1, 1, 2, 1, 0, 1, 2];
+const TWO_DEVICES: [u32; 12] = [1, 1, 0, 0, 1, 1, 2, 1, 0, 0, 1, 2];
 /// Some root named 1 has the value 1.
 const RULE_OF_ROOTS: [u32; 8] = [6, 1, 0, 1, 7, 0, 1, 1];
 
@@ -202,8 +202,8 @@ fn under(b: u32) -> Option<usize> {
 /// A device of four rows: one is on no path of the rule, and one of the others can't decide it.
 fn modes() -> Vec<(String, u64)> {
     let rule = [6, 1, 0, 1, 6, 2, 1, 7, 7, 1, 1, 1];
-    let table = [1, 1, 0, 1, 11, 1, 2, 1, 3, 1, 1, 3, 1, 7, 1, 1, 4, 1, 7, 2];
-    let sends = |mode: u32| part(&rule, &table, mode, &mut [0; 20]);
+    let table = [1, 1, 0, 0, 1, 11, 1, 2, 1, 1, 3, 1, 1, 3, 1, 1, 7, 1, 1, 4, 1, 1, 7, 2];
+    let sends = |mode: u32| part(&rule, &table, mode, &mut [0; 24]);
     let known = (0..100).filter(|&mode| sends(mode).number() != 13);
     let name = |mode| match sends(mode) {
         Answer::Done(4) => "ALL",
@@ -216,7 +216,7 @@ fn modes() -> Vec<(String, u64)> {
 
 /// Each refusal by a call that is refused so.
 fn refusals() -> Vec<(String, u64)> {
-    let one_row = &TWO_DEVICES[..5];
+    let one_row = &TWO_DEVICES[..ROW_WORDS];
     let too_nested: Vec<u32> =
         (0..=MOST_NESTED as u32).flat_map(|place| [5, place + 1, 0, 1]).chain([7, 0, 1, 0]).collect();
     let answers = [
@@ -229,13 +229,14 @@ fn refusals() -> Vec<(String, u64)> {
         ("REFUSED_NESTING", check_rule(&too_nested)),
         ("REFUSED_VARIABLE", check_rule(&[7, 0, 1, 0])),
         ("REFUSED_TABLE_LENGTH", check_table(&[1])),
-        ("REFUSED_RANGE", check_table(&[0, 1, 0, 1, 1])),
-        ("REFUSED_ORDER", check_table(&[2, 1, 0, 1, 1, 1, 1, 0, 1, 2])),
-        ("REFUSED_PARENT", check_table(&[1, 2, 1, 1, 1])),
-        ("REFUSED_SIBLING", check_table(&[1, 1, 0, 1, 1, 2, 1, 0, 1, 1])),
+        ("REFUSED_RANGE", check_table(&[0, 1, 0, 0, 1, 1])),
+        ("REFUSED_ORDER", check_table(&[2, 1, 0, 0, 1, 1, 1, 1, 0, 0, 1, 2])),
+        ("REFUSED_PARENT", check_table(&[1, 2, 1, 1, 1, 1])),
+        ("REFUSED_DEPTH", check_table(&[1, 1, 0, 1, 1, 1])),
+        ("REFUSED_SIBLING", check_table(&[1, 1, 0, 0, 1, 1, 2, 1, 0, 0, 1, 1])),
         ("REFUSED_MODE", part(&RULE_OF_ROOTS, one_row, 0, &mut [])),
         ("REFUSED_DEVICE", part(&RULE_OF_ROOTS, &TWO_DEVICES, 1, &mut [])),
-        ("REFUSED_JOIN", join(&mut TWO_DEVICES.clone(), 10, one_row)),
+        ("REFUSED_JOIN", join(&mut TWO_DEVICES.clone(), TWO_DEVICES.len(), one_row)),
         ("REFUSED_SHORT_OUTPUT", marks(&RULE_OF_ROOTS, one_row, &mut [])),
         ("REFUSED_FIRST_LINE", read_rule(b"", &mut [])),
         ("REFUSED_LINE", read_rule(b"kind a b c\n1", &mut [])),
@@ -254,8 +255,11 @@ fn longest_entry() -> Vec<u32> {
     vec![9, MOST_NESTED as u32 - 1, 1, MOST_VALUE]
 }
 
+/// No row hangs under more than all others.
 fn longest_row() -> Vec<u32> {
-    vec![MOST_NAME, MOST_NAME, MOST_NAME, MOST_NAME, MOST_VALUE]
+    let deep = MOST_ROWS as u32 - 1;
+    let (device, at, up, name) = (MOST_NAME, MOST_NAME, MOST_NAME, MOST_NAME);
+    Row { device, at, up, deep, name, value: MOST_VALUE }.words().to_vec()
 }
 
 #[test]
@@ -295,12 +299,14 @@ fn every_refusal_has_one_name_and_one_text() {
     named.sort();
     let numbers: Vec<u64> = [0].into_iter().chain(refusal_numbers()).collect();
     assert_eq!(named, numbers);
-    assert!(!named.contains(&15));
+    assert!([15, 20, 21, 22, 23, 24, 25].iter().all(|number| !named.contains(number)));
     let texts = refusal_texts();
     assert_eq!(texts.len() as u64, numbers.last().expect("a number") + 1);
-    assert_eq!(texts.iter().collect::<BTreeSet<_>>().len(), texts.len(), "two have one text: {texts:?}");
+    // The numbers below the largest that are not used share one text, which no other has.
     let is_used = |number: &u64| texts[*number as usize] != "not used";
     assert_eq!((0..texts.len() as u64).filter(is_used).collect::<Vec<_>>(), numbers);
+    let used: BTreeSet<&String> = numbers.iter().map(|&number| &texts[number as usize]).collect();
+    assert_eq!(used.len(), numbers.len(), "two have one text: {texts:?}");
 }
 
 /// The texts by number. The comment before each has its number too.
@@ -342,9 +348,11 @@ fn files_fit_their_buffers() {
         let mut file = vec![0; numbers["RULE_FILE_BYTES"] as usize];
         assert_eq!(checker::write_rule(&rule, &mut file), Answer::Done(bytes(RULE, &rule)));
     }
-    // The first row is a root: its up has one digit and not five.
+    // The first row is a root: its up has one digit and not five. Few rows can be so deep that deep has four.
+    let digits_of_deep: usize = (0..MOST_ROWS).map(|deep| deep.to_string().len()).sum();
+    let fewer = 4 + 4 * MOST_ROWS - digits_of_deep;
     let mut file = vec![0; numbers["POOL_FILE_BYTES"] as usize];
-    assert_eq!(checker::write_pool(&largest::longest_pool(), &mut file), Answer::Done(file.len() - 4));
+    assert_eq!(checker::write_pool(&largest::longest_pool(), &mut file), Answer::Done(file.len() - fewer));
 }
 
 /// One quantifier, then connectives, each with a comparison to its left: no other kind has longer lines.
@@ -364,7 +372,7 @@ fn reports_fit_their_buffer() {
     let room = numbers_of_header()["REPORT_BYTES"] as usize;
     // Every two roots are above one another or equal: all are marked, and no switch can know it alone.
     let rule = [5, 1, 0, 1, 5, 2, 0, 1, 3, 3, 4, 0, 8, 0, 0, 1, 9, 1, 0, 0];
-    let roots: Vec<u32> = (1..=MOST_ROWS as u32).flat_map(|at| [1, at, 0, 1, at]).collect();
+    let roots: Vec<u32> = (1..=MOST_ROWS as u32).flat_map(|at| [1, at, 0, 0, 1, at]).collect();
     let text = report_text(&RULE.text_of(&rule), &POOL.text_of(&roots));
     assert_eq!(text, "verdict rows branch full marks\n1 1024 1024 1024 1024\n");
     assert!(text.len() <= room);

@@ -1,7 +1,7 @@
 //! The checks of rules and tables, joining, and the rows of one device.
 #![cfg(feature = "lower")]
 
-use gabzeril_tests::checker::{MOST_NAME, MOST_ROWS, ROW_WORDS};
+use gabzeril_tests::checker::{rows_of, words_of, MOST_NAME, MOST_ROWS, ROW_WORDS};
 use gabzeril_tests::compare::{calls, run, Case};
 use gabzeril_tests::generate::*;
 use gabzeril_tests::random::Random;
@@ -43,7 +43,8 @@ fn tables() {
             }
         }
     });
-    tally.saw_each((0..=0).chain(8..=12), 2_000);
+    tally.saw_each([0], 2_000);
+    tally.saw_each(TABLE_FAULTS, 2_000);
 }
 
 #[test]
@@ -61,10 +62,11 @@ fn device_rows() {
 
 /// Mostly a device of the table.
 fn device_number(random: &mut Random, table: &[u32]) -> u32 {
-    if table.len() < ROW_WORDS || random.chance(30) {
+    let rows = rows_of(table);
+    if rows.is_empty() || random.chance(30) {
         return word_of_any_class(random);
     }
-    let device = table[random.below(table.len() / ROW_WORDS) * ROW_WORDS];
+    let device = random.pick(&rows).device;
     if random.chance(20) {
         device.wrapping_add(1)
     } else {
@@ -84,14 +86,23 @@ fn joining() {
             pool[..used].copy_from_slice(&first[..used]);
             let used = match case.random.below(25) {
                 0 => length + case.random.below(3),
-                1 => case.random.pick(&[0, 1 << 31, 1 << 32, usize::MAX, usize::MAX - 4]),
+                // The last two: a row more would wrap, and as many whole rows as can be counted.
+                1 => case.random.pick(&[
+                    0,
+                    1 << 31,
+                    1 << 32,
+                    usize::MAX,
+                    usize::MAX - ROW_WORDS + 1,
+                    usize::MAX / ROW_WORDS * ROW_WORDS,
+                ]),
                 2 => first.len(),
                 _ => used,
             };
             calls::join(case, &pool, used, &second);
         }
     });
-    tally.saw_each((0..=0).chain(8..=12).chain(16..=17), 300);
+    tally.saw_each([0, 16, 17], 300);
+    tally.saw_each(TABLE_FAULTS, 300);
 }
 
 /// Two tables that fit mostly, and otherwise fail each check of joining.
@@ -119,21 +130,22 @@ fn two_tables(case: &mut Case) -> (Vec<u32>, Vec<u32>) {
 
 /// Cuts a pool before a row, mostly one that begins a device.
 fn split(random: &mut Random, pool: &[u32]) -> (Vec<u32>, Vec<u32>) {
-    let rows: Vec<&[u32]> = pool.chunks(ROW_WORDS).collect();
+    let rows = rows_of(pool);
     let mut cut = random.below(rows.len() + 1);
     if random.chance(90) {
-        while cut > 0 && cut < rows.len() && rows[cut][0] == rows[cut - 1][0] {
+        while cut > 0 && cut < rows.len() && rows[cut].device == rows[cut - 1].device {
             cut += 1;
         }
     }
-    (rows[..cut].concat(), rows[cut..].concat())
+    (words_of(&rows[..cut]), words_of(&rows[cut..]))
 }
 
 /// The second table with its devices moved above those of the first; roots may then be equal.
-fn moved_behind(first: &[u32], mut second: Vec<u32>) -> Vec<u32> {
-    let last = if first.is_empty() { 0 } else { first[first.len() - ROW_WORDS] };
-    second.chunks_mut(ROW_WORDS).for_each(|row| row[0] = (row[0] + last).min(MOST_NAME));
-    second
+fn moved_behind(first: &[u32], second: Vec<u32>) -> Vec<u32> {
+    let last = rows_of(first).last().map_or(0, |row| row.device);
+    let mut rows = rows_of(&second);
+    rows.iter_mut().for_each(|row| row.device = (row.device + last).min(MOST_NAME));
+    words_of(&rows)
 }
 
 /// Two tables with about 1,024 rows together.

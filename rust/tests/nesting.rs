@@ -50,7 +50,9 @@ fn every_call() {
             each_call(case, &rule, &table);
         }
     });
-    tally.saw_each((0..=12).chain([14, 17]), 100);
+    tally.saw_each([0, 14, 17], 100);
+    tally.saw_each(RULE_FAULTS, 100);
+    tally.saw_each(TABLE_FAULTS, 100);
     tally.saw_both_values(10_000);
     saw_the_limit(&tally, 1_000);
     tally.saw_noted(INNERMOST, 300);
@@ -59,11 +61,12 @@ fn every_call() {
 fn each_call(case: &mut Case, rule: &[u32], table: &[u32]) {
     calls::check_rule(case, rule);
     calls::verdict(case, rule, table);
-    let length = length_of_output(case, table.len() / ROW_WORDS, table.len() / ROW_WORDS);
+    let rows = table.len() / ROW_WORDS;
+    let length = mostly_enough(&mut case.random, rows, rows);
     let output = case.random.bytes(length);
     calls::marks(case, rule, table, &output);
     for mode in 1..=3 {
-        let length = length_of_output(case, table.len(), words_sent(rule, table, mode));
+        let length = mostly_enough(&mut case.random, table.len(), words_sent(rule, table, mode));
         let output = case.random.words(length);
         calls::part(case, rule, table, mode, &output);
     }
@@ -72,18 +75,9 @@ fn each_call(case: &mut Case, rule: &[u32], table: &[u32]) {
     let length = case.random.below(81);
     let output = case.random.bytes(length);
     calls::report(case, &rule_file, &pool_file, &output);
-    let length = length_of_output(case, rule_file.len(), rule_file.len());
+    let length = mostly_enough(&mut case.random, rule_file.len(), rule_file.len());
     let output = case.random.bytes(length);
     calls::write_rule(case, rule, &output);
-}
-
-/// Mostly enough for any answer, at times about as long as this one.
-fn length_of_output(case: &mut Case, enough: usize, answer: usize) -> usize {
-    if case.random.chance(80) {
-        enough
-    } else {
-        one_length_around(&mut case.random, answer)
-    }
 }
 
 /// Notes what the limit does to a rule without other damage.

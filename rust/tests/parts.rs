@@ -1,7 +1,8 @@
 //! The parts, and demand 3 on lists of devices.
 #![cfg(feature = "parts")]
 
-use gabzeril_tests::compare::{calls, run, Case};
+use gabzeril_tests::checker::{rows_of, Row, MOST_VALUE};
+use gabzeril_tests::compare::{calls, run, Case, Tally};
 use gabzeril_tests::generate::*;
 use gabzeril_tests::random::Random;
 
@@ -64,7 +65,7 @@ fn quantifiers_over_roots() {
             calls::part(case, &rule, &device, mode, &output);
         }
     });
-    tally.saw_each(1..=14, 100);
+    saw_each_before_the_part(&tally, 100);
     tally.saw_each([0], 100_000);
     tally.saw_each([17], 5_000);
     tally.saw_both_values(1_000);
@@ -79,8 +80,9 @@ fn damaged_request(random: &mut Random, (rule, device, mode): Request) -> Reques
         1 => (rule, damaged_table(random, &device), mode),
         2 => (rule, device, unknown_mode(random)),
         _ => {
-            let other = [device[0] + 1, 1, 0, 1, random.word() >> 1];
-            (rule, [&device[..], &other].concat(), mode)
+            let (next, value) = (rows_of(&device)[0].device + 1, random.word() & MOST_VALUE);
+            let other = Row { device: next, at: 1, up: 0, deep: 0, name: 1, value };
+            (rule, [&device[..], &other.words()].concat(), mode)
         }
     }
 }
@@ -114,7 +116,14 @@ fn refused_rules_and_tables() {
         let output = case.random.words(length);
         calls::part(case, &rule, &table, mode, &output);
     });
-    tally.saw_each(1..=14, 100);
+    saw_each_before_the_part(&tally, 100);
+}
+
+/// The refusals of the rule, the table, the mode and the devices.
+fn saw_each_before_the_part(tally: &Tally, least: u64) {
+    tally.saw_each(RULE_FAULTS, least);
+    tally.saw_each(TABLE_FAULTS, least);
+    tally.saw_each([13, 14], least);
 }
 
 #[cfg(all(feature = "lower", feature = "engine"))]

@@ -6,7 +6,7 @@ use std::path::{Path, PathBuf};
 use std::process::Command;
 
 use gabzeril_tests::answer::Answer;
-use gabzeril_tests::checker::{report_text, MOST_FILE_BYTES, POOL, RULE};
+use gabzeril_tests::checker::{report_text, Format, MOST_FILE_BYTES, POOL, RULE};
 use gabzeril_tests::compare::{run, Case};
 use gabzeril_tests::generate::*;
 
@@ -71,10 +71,10 @@ fn random_files() {
 fn sizes() {
     let Some(program) = program() else { return };
     let rule = Some(RULE.text_of(&[6, 1, 0, 1, 7, 0, 1, 5]));
-    let pool = Some(POOL.text_of(&[1, 1, 0, 1, 5]));
+    let pool = Some(POOL.text_of(&[1, 1, 0, 0, 1, 5]));
     let of_length = |length: usize| Some(vec![b'1'; length]);
-    let long_lines = |file: &File, columns: usize, lines: usize| {
-        let line = vec!["1"; columns].join(" ") + "\n";
+    let long_lines = |file: &File, format: Format, lines: usize| {
+        let line = vec!["1"; format.columns].join(" ") + "\n";
         file.as_ref().map(|file| [&file[..], line.repeat(lines).as_bytes()].concat())
     };
     run("sizes", 1, 20, |case| {
@@ -84,9 +84,10 @@ fn sizes() {
             compare(case, &program, "sizes", &other, &other);
         }
         compare(case, &program, "sizes", &rule, &pool);
-        for lines in [127, 1_023, 1_024, 6_000, 7_000, 9_000] {
-            compare(case, &program, "sizes", &long_lines(&rule, 4, lines), &pool);
-            compare(case, &program, "sizes", &rule, &long_lines(&pool, 5, lines));
+        // Of each file, some have many lines and few enough bytes, and some too many bytes.
+        for lines in [127, 1_023, 1_024, 5_000, 6_000, 7_000, 9_000] {
+            compare(case, &program, "sizes", &long_lines(&rule, RULE, lines), &pool);
+            compare(case, &program, "sizes", &rule, &long_lines(&pool, POOL, lines));
         }
     });
 }

@@ -29,13 +29,15 @@ fn checks() {
 #[test]
 fn joining() {
     for table in largest::tables() {
-        for used in [0, 5, 2_560, table.len()] {
-            let mut second = table[used..].to_vec();
+        for first in [0, 1, checker::MOST_ROWS / 2, checker::MOST_ROWS] {
+            let used = first * checker::ROW_WORDS;
+            let mut rows = checker::rows_of(&table[used..]);
             // The rows behind become another device, each under the row before.
-            for (row, words) in second.chunks_mut(checker::ROW_WORDS).enumerate() {
-                words[0] = 2;
-                words[2] = if row == 0 { 0 } else { words[1] - 1 };
+            for (deep, row) in (0..).zip(&mut rows) {
+                (row.device, row.deep) = (2, deep);
+                row.up = if deep == 0 { 0 } else { row.at - 1 };
             }
+            let second = checker::words_of(&rows);
             let mut expected = table.clone();
             let answer = checker::join(&mut expected, used, &second);
             let mut pool = table.clone();

@@ -22,6 +22,7 @@ use Rattle.tables.proofs.Accepted.{few-rows}
 use Rattle.logic.specs.Formulas.{formula}
 use Rattle.logic.specs.Verdict.{verdict}
 use Rattle.checker.specs.Files.{ruleOf, poolOf, ruleFile, poolFile}
+use Rattle.checker.specs.Loading.{largestRefusal}
 use Rattle.checker.specs.Report.{fileLimit, sized, reportAnswer, begins, partCount, countAt, partsCount, counts, countsText, refusalText, textOf, reportText, reportLength, reportOut}
 use Rattle.checker.proofs.Sizes.{Small, small-then, small-rule-file, small-pool-file, small-sized}
 use Rattle.checker.proofs.OwnRows.{count-few}
@@ -44,7 +45,7 @@ number-few : (k c w : ℕ) (ws : List ℕ) (n : ℕ) → w < 10 ^ suc n → leng
 unfolding textFrom
 number-few k c w ws n h = omega (arith, length-append (numberText w) (byteAfter k c ∷ textFrom k (nextColumn k c) ws), digits-few 10 n w h)
 
-refusal-few : (k p : ℕ) → k ≤ 19 → p ≤ fileLimit + rowLimit → length (refusalText k p) ≤ 64
+refusal-few : (k p : ℕ) → k ≤ largestRefusal → p ≤ fileLimit + rowLimit → length (refusalText k p) ≤ 64
 unfolding writeText textFrom
 refusal-few k p h l =
     omega (

@@ -24,10 +24,11 @@ use Rattle.tables.proofs.Steps.{step-counted}
 use Rattle.logic.specs.Formulas.{formula}
 use Rattle.logic.specs.Verdict.{verdict}
 use Rattle.checker.specs.Files.{ruleOf, poolOf, tableFile, ruleFile, poolFile, filesAnswer, returned}
+use Rattle.checker.specs.Loading.{largestRefusal}
 use Rattle.checker.specs.Report.{fileLimit, sized}
 
 pub record Small (p : ℕ) (a : Answer) : Type 0 where
-  pub number-le : number a ≤ 19
+  pub number-le : number a ≤ largestRefusal
   pub place-le : place a ≤ p
 
 small-wider : (p q : ℕ) (a : Answer) → p ≤ q → Small p a → Small q a
@@ -37,17 +38,17 @@ pub small-then : (p : ℕ) (a b : Answer) → Small p a → Small p b → Small 
 small-then p (Done n) b s t = t
 small-then p (Refused k q) b s t = s
 
-small-unless : (p : ℕ) (ok : Bool) (k : ℕ) (next : Answer) → k ≤ 19 → (ok ≡ true → Small p next) → Small p (unless ok k next)
+small-unless : (p : ℕ) (ok : Bool) (k : ℕ) (next : Answer) → k ≤ largestRefusal → (ok ≡ true → Small p next) → Small p (unless ok k next)
 small-unless p true k next h s = s refl
 small-unless p false k next h s = record { number-le = h; place-le = omega arith }
 
 -- checks in order at n places
-small-order : (fault : ℕ → ℕ → Bool) (n : ℕ) (ks : List ℕ) → all (λ k. leb k 19) ks ≡ true → Small n (inOrder fault n ks)
+small-order : (fault : ℕ → ℕ → Bool) (n : ℕ) (ks : List ℕ) → all (λ k. leb k largestRefusal) ks ≡ true → Small n (inOrder fault n ks)
 small-order fault n [] e = record { number-le = omega arith; place-le = omega arith }
-small-order fault n (k ∷ ks) e = go (some (fault k) n) (small-order fault n ks (and-right (leb k 19) (all (λ k. leb k 19) ks) e))
+small-order fault n (k ∷ ks) e = go (some (fault k) n) (small-order fault n ks (and-right (leb k largestRefusal) (all (λ k. leb k largestRefusal) ks) e))
   where
     go : (b : Bool) → Small n (inOrder fault n ks) → Small n (cond b (Refused k (first (fault k) n)) (inOrder fault n ks))
-    go true s = record { number-le = leb-true k 19 (and-left (leb k 19) (all (λ k. leb k 19) ks) e); place-le = first-le (fault k) n }
+    go true s = record { number-le = leb-true k largestRefusal (and-left (leb k largestRefusal) (all (λ k. leb k largestRefusal) ks) e); place-le = first-le (fault k) n }
     go false s = s
 
 small-rule : (r : List ℕ) → Small rowLimit (checkRule r)
@@ -94,20 +95,20 @@ pub small-pool-file : (file : List ℕ) → Small (length file + rowLimit) (pool
 small-pool-file file = small-file poolNames rowWords checkTable file small-table
 
 -- ---- the program's refusals: a place has at most five digits
-pub small-sized : (k : ℕ) (file : List ℕ) (next : Answer) → k ≤ 19 → Small (length file + rowLimit) next → Small (fileLimit + rowLimit) (sized k file next)
+pub small-sized : (k : ℕ) (file : List ℕ) (next : Answer) → k ≤ largestRefusal → Small (length file + rowLimit) next → Small (fileLimit + rowLimit) (sized k file next)
 small-sized k file next h s = small-unless (fileLimit + rowLimit) (leb (length file) fileLimit) k next h
     (λ e. small-wider (length file + rowLimit) (fileLimit + rowLimit) next (omega (arith, leb-true (length file) fileLimit e)) s)
 
 -- ---- what the C entry returns
-returned-then : (p : ℕ) (a b : Answer) → Small p a → returned b ≤ 119 → returned (andThen a b) ≤ 119
+returned-then : (p : ℕ) (a b : Answer) → Small p a → returned b ≤ 100 + largestRefusal → returned (andThen a b) ≤ 100 + largestRefusal
 returned-then p (Done n) b s h = h
 returned-then p (Refused k q) b s h = omega (arith, s .number-le)
 
-pub returned-le : (rf pf : List ℕ) → returned (filesAnswer rf pf) ≤ 119
+pub returned-le : (rf pf : List ℕ) → returned (filesAnswer rf pf) ≤ 100 + largestRefusal
 unfolding filesAnswer
 returned-le rf pf =
     returned-then _ (ruleFile rf) _ (small-rule-file rf) (returned-then _ (poolFile pf) _ (small-pool-file pf) (at-most-one (verdict (formula (ruleOf rf)) (rows (poolOf pf)))))
   where
-    at-most-one : (b : Bool) → one b ≤ 119
+    at-most-one : (b : Bool) → one b ≤ 100 + largestRefusal
     at-most-one true = omega arith
     at-most-one false = omega arith

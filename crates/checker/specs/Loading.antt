@@ -1,4 +1,4 @@
--- What the private contracts of loading files cite. Assumes nothing.
+-- What the private contracts of loading files, and of the number that the C entry returns, cite. Assumes nothing.
 use Prim.Native.Nat.{ℕ, _≤_}
 use mathlib.Core.Path.{_≡_}
 use mathlib.Core.List.{List}
@@ -13,3 +13,7 @@ pub record Loaded (checked : Answer) (words : List ℕ) (r : Answer) (out : List
   pub answer : r ≡ andThen checked (Done (length words))
   pub within : (n : ℕ) → r ≡ Done n → n ≤ length out
   pub held : (n : ℕ) → r ≡ Done n → take n out ≡ words
+
+-- no refusal of a file, rule or table has a larger number
+abbrev pub largestRefusal : ℕ
+largestRefusal = 26

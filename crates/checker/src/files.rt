@@ -6,10 +6,11 @@ use tables::Answer;
 use tables::RULE_WORDS;
 use tables::TABLE_WORDS;
 ghost use mathlib.Core.Path.{_≡_};
-ghost use Prim.Native.Nat.{_≤_};
+ghost use Prim.Native.Nat.{_+_, _≤_};
 ghost use Rattle.tables.specs.Answers.{andThen};
 ghost use Rattle.logic.specs.Verdict.{verdictAnswer};
 ghost use Rattle.checker.specs.Files.{poolOf, poolFile, filesAnswer, returned};
+ghost use Rattle.checker.specs.Loading.{largestRefusal};
 
 // The verdict of a rule on the pool of a file, after the file's refusals.
 fn check_pool(rule: &[u32], file: &[u8]) -> Answer
@@ -37,7 +38,7 @@ fn check_both(rule: &[u8], pool: &[u8]) -> Answer
 
 // The number that stands for an answer.
 fn number_of(answer: Answer) -> u32
-    requires { ⌜ returned answer ≤ 119 ⌝ }
+    requires { ⌜ returned answer ≤ 100 + largestRefusal ⌝ }
     ensures { λ r. ⌜ r ≡ returned answer ⌝ }
 {
     match answer {

@@ -4,6 +4,7 @@ use tables::A;
 use tables::AT;
 use tables::B;
 use tables::C;
+use tables::DEEP;
 use tables::DEVICE;
 use tables::ENTRY_WORDS;
 use tables::Entry;
@@ -41,6 +42,7 @@ pub(crate) fn row_at(pool: &[u32], i: usize) -> Row
         device: pool[ROW_WORDS * i + DEVICE],
         at: pool[ROW_WORDS * i + AT],
         up: pool[ROW_WORDS * i + UP],
+        deep: pool[ROW_WORDS * i + DEEP],
         name: pool[ROW_WORDS * i + NAME],
         value: pool[ROW_WORDS * i + VALUE],
     }

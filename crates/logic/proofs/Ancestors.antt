@@ -116,7 +116,7 @@ under-trans (under-above m c u) k = under-above m c (under-trans u k)
 
 module _ (D : List Row) (ok : Proper D) where
   falls : Falling (reverse D)
-  falls = fall-back (ok .rise) (up-low ok) (λ r x m. elim m [ ]) none-fall
+  falls = fall-back (ok .order .rise) (up-low ok) (λ r x m. elim m [ ]) none-fall
 
   back-in : {r : Row} → r ∈ reverse D → r ∈ D
   back-in {r} m = elim (reverse-out D [] m) [ inl k ↦ k | inr k ↦ elim k [ ] ]

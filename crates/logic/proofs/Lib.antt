@@ -4,6 +4,7 @@ pub mod Sound
 pub mod Verdict
 pub mod Marks
 pub mod Ancestors
+pub mod Depth
 pub mod Cuts
 pub mod Members
 pub mod Monotone

@@ -1,4 +1,5 @@
 -- A sublist of rising rows is the selection of the rows that are members of it. Assumes nothing.
+use Prim.Native.Nat.{ℕ}
 use mathlib.Core.Path.{_≡_, refl, sym, ap₂, subst, _∙_}
 use mathlib.Core.Bool.{Bool, true, false, _&&_, true≢false}
 use mathlib.Core.List.{List, _∷_, List·Memᴰ·head, List·Memᴰ·tail, Memᴰ·cast, Sublistᴰ, Sublistᴰ·slnil, Sublistᴰ·cons, Sublistᴰ·cons-cons}
@@ -10,9 +11,11 @@ use Rattle.base.proofs.Lists.{any-at, any-hit, sub-in}
 use Rattle.tables.specs.declared.Row.{Row}
 use Rattle.tables.proofs.Proper.{Above, above-key, Rising, more-rise}
 
--- ---- a test for membership: all five words agree
+-- ---- a test for membership: all words agree
 abbrev same : Row → Row → Bool
-same r s = eqb (r .device) (s .device) && (eqb (r .at) (s .at) && (eqb (r .up) (s .up) && (eqb (r .name) (s .name) && eqb (r .value) (s .value))))
+same r s =
+    eqb (r .device) (s .device)
+    && (eqb (r .at) (s .at) && (eqb (r .up) (s .up) && (eqb (r .deep) (s .deep) && (eqb (r .name) (s .name) && eqb (r .value) (s .value)))))
 
 same-is : (r s : Row) → same r s ≡ true → r ≡ s
 same-is r s e =
@@ -22,12 +25,23 @@ same-is r s e =
     let e₂ = and-right (eqb (r .at) (s .at)) _ e₁ in
     let u = and-left (eqb (r .up) (s .up)) _ e₂ in
     let e₃ = and-right (eqb (r .up) (s .up)) _ e₂ in
-    let n = and-left (eqb (r .name) (s .name)) _ e₃ in
-    let v = and-right (eqb (r .name) (s .name)) _ e₃ in
-    λ i. record { device = eqb-true (r .device) (s .device) d i; at = eqb-true (r .at) (s .at) a i; up = eqb-true (r .up) (s .up) u i; name = eqb-true (r .name) (s .name) n i; value = eqb-true (r .value) (s .value) v i }
+    let p = and-left (eqb (r .deep) (s .deep)) _ e₃ in
+    let e₄ = and-right (eqb (r .deep) (s .deep)) _ e₃ in
+    let n = and-left (eqb (r .name) (s .name)) _ e₄ in
+    let v = and-right (eqb (r .name) (s .name)) _ e₄ in
+    λ i. record {
+      device = eqb-true (r .device) (s .device) d i;
+      at = eqb-true (r .at) (s .at) a i;
+      up = eqb-true (r .up) (s .up) u i;
+      deep = eqb-true (r .deep) (s .deep) p i;
+      name = eqb-true (r .name) (s .name) n i;
+      value = eqb-true (r .value) (s .value) v i;
+    }
 
 same-refl : (r : Row) → same r r ≡ true
-same-refl r = simp (eq-eqb (r .device) (r .device) refl, eq-eqb (r .at) (r .at) refl, eq-eqb (r .up) (r .up) refl, eq-eqb (r .name) (r .name) refl, eq-eqb (r .value) (r .value) refl)
+same-refl r =
+    let own : (x : ℕ) → eqb x x ≡ true = λ x. eq-eqb x x refl in
+    simp (own (r .device), own (r .at), own (r .up), own (r .deep), own (r .name), own (r .value))
 
 unfoldable pub member : List Row → Row → Bool
 member C r = any (same r) C

@@ -39,9 +39,10 @@ from-words n (a ∷ []) h = absurd (omega arith)
 from-words n (a ∷ b ∷ []) h = absurd (omega arith)
 from-words n (a ∷ b ∷ c ∷ []) h = absurd (omega arith)
 from-words n (a ∷ b ∷ c ∷ d ∷ []) h = absurd (omega arith)
-from-words zero (a ∷ b ∷ c ∷ d ∷ e ∷ t) h = absurd (omega arith)
-from-words (suc n) (a ∷ b ∷ c ∷ d ∷ e ∷ t) h =
-    ap wordsOf (rows-append (a ∷ b ∷ c ∷ d ∷ e ∷ []) t refl) ∙ ap (λ (ws : List ℕ). a ∷ b ∷ c ∷ d ∷ e ∷ ws) (from-words n t (omega arith))
+from-words n (a ∷ b ∷ c ∷ d ∷ e ∷ []) h = absurd (omega arith)
+from-words zero (a ∷ b ∷ c ∷ d ∷ e ∷ f ∷ t) h = absurd (omega arith)
+from-words (suc n) (a ∷ b ∷ c ∷ d ∷ e ∷ f ∷ t) h =
+    ap wordsOf (rows-append (a ∷ b ∷ c ∷ d ∷ e ∷ f ∷ []) t refl) ∙ ap (λ (ws : List ℕ). a ∷ b ∷ c ∷ d ∷ e ∷ f ∷ ws) (from-words n t (omega arith))
 
 pub words-rows : (t : List ℕ) → whole rowWords t ≡ true → wordsOf (rows t) ≡ t
 words-rows t e = from-words (rowCount t) t (whole-is t e)

@@ -6,3 +6,4 @@ pub mod Reading
 pub mod Elsewhere
 pub mod Parts
 pub mod Demand
+pub mod Depth

@@ -6,7 +6,7 @@ use lib.ListN.{length}
 use lib.Dec.{eqb, leb}
 use Rattle.base.specs.Lists.{select, when, concatMap, all, any}
 use Rattle.tables.specs.Answers.{andThen, unless, unlessAny, output}
-use Rattle.tables.specs.Words.{rows, rowAt, rowCount}
+use Rattle.tables.specs.Words.{columnsOf, rows, rowAt, rowCount}
 use Rattle.tables.specs.Rules.{checkRule}
 use Rattle.tables.specs.Tables.{root, isParent, checkTable}
 use Rattle.tables.specs.declared.Row.{Row}
@@ -84,7 +84,7 @@ partOf F mode D = cond (eqb mode 1) D (cond (eqb mode 2) (branchPart F D) (fullP
 -- ---- the call: the number of rows sent, or the refusal; the output is their words and what stood past them, or as it was
 -- the words of rows
 abbrev pub wordsOf : List Row → List ℕ
-wordsOf D = concatMap (λ r. r .device ∷ r .at ∷ r .up ∷ r .name ∷ r .value ∷ []) D
+wordsOf D = concatMap columnsOf D
 
 -- 14: a row whose device isn't the first row's
 abbrev pub otherDevice : List ℕ → ℕ → Bool

@@ -65,15 +65,15 @@ module _ (t : List ℕ) (i x : ℕ) (h : x ≡ 0 → ⊥) where
   row-words = ap (λ (D : List Row). length (wordsOf D)) (row-taken t i x h)
 
   pub row-written : (out : List ℕ) (at : ℕ) (r : Row) → r ≡ rowAt t i
-      → set (set (set (set (set out at (r .device)) (at + 1) (r .at)) (at + 2) (r .up)) (at + 3) (r .name)) (at + 4) (r .value) ≡ sets out at (wordsOf (rowSent t i x))
+      → set (set (set (set (set (set out at (r .device)) (at + 1) (r .at)) (at + 2) (r .up)) (at + 3) (r .deep)) (at + 4) (r .name)) (at + 5) (r .value) ≡ sets out at (wordsOf (rowSent t i x))
   row-written out at r r-is =
-      numbers (at + 1) (at + 2) (at + 3) (at + 4) (omega arith) (omega arith) (omega arith) (omega arith)
+      numbers (at + 1) (at + 2) (at + 3) (at + 4) (at + 5) (omega arith) (omega arith) (omega arith) (omega arith) (omega arith)
       ∙ ap (λ (y : Row). sets out at (wordsOf (y ∷ []))) r-is
       ∙ ap (λ (D : List Row). sets out at (wordsOf D)) (sym (row-taken t i x h))
     where
-      numbers : (a b c d : ℕ) → a ≡ suc at → b ≡ suc (suc at) → c ≡ suc (suc (suc at)) → d ≡ suc (suc (suc (suc at)))
-          → set (set (set (set (set out at (r .device)) a (r .at)) b (r .up)) c (r .name)) d (r .value) ≡ sets out at (wordsOf (r ∷ []))
-      numbers a b c d ea eb ec ed = rw (ea, eb, ec, ed)
+      numbers : (a b c d e : ℕ) → a ≡ suc at → b ≡ suc (suc at) → c ≡ suc (suc (suc at)) → d ≡ suc (suc (suc (suc at))) → e ≡ suc (suc (suc (suc (suc at))))
+          → set (set (set (set (set (set out at (r .device)) a (r .at)) b (r .up)) c (r .deep)) d (r .name)) e (r .value) ≡ sets out at (wordsOf (r ∷ []))
+      numbers a b c d e ea eb ec ed ee = rw (ea, eb, ec, ed, ee)
 
 -- ---- the loop over the rows
 module _ (t kept out₀ : List ℕ) (n : ℕ) where

@@ -2,6 +2,7 @@
 use super::words::row_at;
 use super::words::row_count;
 use tables::AT;
+use tables::DEEP;
 use tables::NAME;
 use tables::ROW_WORDS;
 use tables::UP;
@@ -45,6 +46,7 @@ fn send_row(table: &[u32], row: usize, keep: u8, out: &mut [u32], at: usize) -> 
     out[at] = r.device;
     out[at + AT] = r.at;
     out[at + UP] = r.up;
+    out[at + DEEP] = r.deep;
     out[at + NAME] = r.name;
     out[at + VALUE] = r.value;
     at + ROW_WORDS

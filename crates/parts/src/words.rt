@@ -3,6 +3,7 @@ use tables::A;
 use tables::AT;
 use tables::B;
 use tables::C;
+use tables::DEEP;
 use tables::DEVICE;
 use tables::ENTRY_WORDS;
 use tables::Entry;
@@ -24,6 +25,7 @@ pub(crate) fn row_at(t: &[u32], i: usize) -> Row
         device: t[ROW_WORDS * i + DEVICE],
         at: t[ROW_WORDS * i + AT],
         up: t[ROW_WORDS * i + UP],
+        deep: t[ROW_WORDS * i + DEEP],
         name: t[ROW_WORDS * i + NAME],
         value: t[ROW_WORDS * i + VALUE],
     }

@@ -23,23 +23,23 @@ use Rattle.published.specs.Published.{CL, NOT, OR, IMPLIES, SOME, EACH, 
 use Rattle.published.specs.Stated.{noStanding, stated, published}
 
 -- ---- rules and tables
-abbrev pub row : ℕ → ℕ → ℕ → ℕ → ℕ → List ℕ
-row device at up name value = device ∷ at ∷ up ∷ name ∷ value ∷ []
+abbrev pub row : ℕ → ℕ → ℕ → ℕ → ℕ → ℕ → List ℕ
+row device at up deep name value = device ∷ at ∷ up ∷ deep ∷ name ∷ value ∷ []
 
 abbrev pub entry : ℕ → ℕ → ℕ → ℕ → List ℕ
 entry kind a b c = kind ∷ a ∷ b ∷ c ∷ []
 
 abbrev pub D1 : List ℕ
-D1 = row 1 1 0 1 11 ++ row 1 2 1 2 2 ++ row 1 3 1 3 101
+D1 = row 1 1 0 0 1 11 ++ row 1 2 1 1 2 2 ++ row 1 3 1 1 3 101
 
 abbrev pub D2 : List ℕ
-D2 = row 2 1 0 1 12 ++ row 2 2 1 2 1
+D2 = row 2 1 0 0 1 12 ++ row 2 2 1 1 2 1
 
 abbrev pub D3 : List ℕ
-D3 = row 3 1 0 1 13 ++ row 3 2 1 2 3
+D3 = row 3 1 0 0 1 13 ++ row 3 2 1 1 2 3
 
 abbrev pub D4 : List ℕ
-D4 = row 4 1 0 1 14 ++ row 4 2 1 2 2
+D4 = row 4 1 0 0 1 14 ++ row 4 2 1 1 2 2
 
 -- client or server
 abbrev pub ruleA : List ℕ
@@ -97,7 +97,7 @@ ruleAddresses =
 
 -- a router with two interfaces, the second with that address
 abbrev pub router : ℕ → List ℕ
-router address = row 1 1 0 1 10 ++ row 1 2 1 2 1 ++ row 1 3 2 3 77 ++ row 1 4 1 2 2 ++ row 1 5 4 3 address
+router address = row 1 1 0 0 1 10 ++ row 1 2 1 1 2 1 ++ row 1 3 2 2 3 77 ++ row 1 4 1 1 2 2 ++ row 1 5 4 2 3 address
 
 -- ---- what a case gives and expects
 -- a row by (device, at)
@@ -175,19 +175,29 @@ cases =
     -- (d)
     ∷ sends ruleA 3 D1 []
     -- (e)
-    ∷ sends ruleA 3 D3 (row 3 1 0 1 13)
+    ∷ sends ruleA 3 D3 (row 3 1 0 0 1 13)
     -- (f)
     ∷ judged ruleB (D1 ++ D2) true (key 1 1 ++ key 2 1 ++ key 2 2)
     -- (g)
     ∷ judged ruleB (D1 ++ D2 ++ D4) false (key 1 1 ++ key 1 2 ++ key 4 1 ++ key 4 2)
     -- (h)
-    ∷ sends ruleB 3 D1 (row 1 1 0 1 11 ++ row 1 2 1 2 2)
+    ∷ sends ruleB 3 D1 (row 1 1 0 0 1 11 ++ row 1 2 1 1 2 2)
     ∷ sends ruleB 3 D2 []
     -- (i)
-    ∷ tableChecked (row 1 1 0 1 2147483647) (Done 1)
-    ∷ tableChecked (row 1 1 0 1 2147483648) (Refused 9 0)
+    ∷ tableChecked (row 1 1 0 0 1 2147483647) (Done 1)
+    ∷ tableChecked (row 1 1 0 0 1 2147483648) (Refused 9 0)
     -- (j)
-    ∷ tableChecked (D1 ++ row 1 4 1 2 2) (Refused 12 3)
+    ∷ tableChecked (D1 ++ row 1 4 1 1 2 2) (Refused 12 3)
+    -- deep is wrong: 1 at a root; the parent's own; two more than the parent's; so large that one more would wrap
+    ∷ tableChecked (row 1 1 0 1 1 11) (Refused 26 0)
+    ∷ tableChecked (D1 ++ row 1 4 2 1 4 7) (Refused 26 3)
+    ∷ tableChecked (D1 ++ row 1 4 2 3 4 7) (Refused 26 3)
+    ∷ tableChecked (D1 ++ row 1 4 2 2 4 7) (Done 4)
+    ∷ tableChecked (row 1 1 0 4294967295 1 11 ++ row 1 2 1 0 2 2) (Refused 26 0)
+    ∷ tableChecked (row 1 1 0 0 1 11 ++ row 1 2 1 4294967295 2 2) (Refused 26 1)
+    -- after 11, wherever it stands, and before 12
+    ∷ tableChecked (row 1 1 0 1 1 11 ++ row 1 2 3 1 2 2) (Refused 11 1)
+    ∷ tableChecked (D1 ++ row 1 4 1 1 2 2 ++ row 1 5 4 1 4 7) (Refused 26 4)
     -- (k)
     ∷ ruleChecked (nested 0 6) (Done 7)
     ∷ ruleChecked (nested 0 7) (Refused 6 6)
@@ -195,44 +205,44 @@ cases =
     ∷ ruleChecked (beside 0 6) (Done 20)
     -- (l)
     ∷ joins D2 D1 (Refused 16 0)
-    ∷ joins D1 D2 (Done 25)
+    ∷ joins D1 D2 (Done 30)
     -- the branch parts and all rows, beside (h)
-    ∷ sends ruleB 2 D1 (row 1 1 0 1 11 ++ row 1 2 1 2 2)
+    ∷ sends ruleB 2 D1 (row 1 1 0 0 1 11 ++ row 1 2 1 1 2 2)
     ∷ sends ruleB 2 D2 D2
     ∷ sends ruleB 1 D1 D1
     -- rows that fail the condition under kind 5 are kept: a = 2 alone under "every a is 1"
-    ∷ judged (everyIs 1) (row 1 1 0 1 2) false (key 1 1)
-    ∷ sends (everyIs 1) 3 (row 1 1 0 1 2) (row 1 1 0 1 2)
+    ∷ judged (everyIs 1) (row 1 1 0 0 1 2) false (key 1 1)
+    ∷ sends (everyIs 1) 3 (row 1 1 0 0 1 2) (row 1 1 0 0 1 2)
     -- a quantifier is not split over or: with a = 1 and a = 2, "every a is 1 or 2" is true, yet neither half is
-    ∷ judged everyIsEither (row 1 1 0 1 1 ++ row 1 2 0 1 2) true (key 1 1 ++ key 1 2)
-    ∷ judged (everyIs 1) (row 1 1 0 1 1 ++ row 1 2 0 1 2) false (key 1 2)
-    ∷ judged (everyIs 2) (row 1 1 0 1 1 ++ row 1 2 0 1 2) false (key 1 1)
+    ∷ judged everyIsEither (row 1 1 0 0 1 1 ++ row 1 2 0 0 1 2) true (key 1 1 ++ key 1 2)
+    ∷ judged (everyIs 1) (row 1 1 0 0 1 1 ++ row 1 2 0 0 1 2) false (key 1 2)
+    ∷ judged (everyIs 2) (row 1 1 0 0 1 1 ++ row 1 2 0 0 1 2) false (key 1 1)
     -- quantifiers are not pulled to the front: with no rows the first is true, the second false
     ∷ judged someOrEvery [] true []
     ∷ judged pulledToFront [] false []
     -- a spare row is not sent without its child that isn't spare: D1's 1/2 isn't spare and (d) sends neither; 1/1 alone is false
     ∷ spares ruleA D1 (key 1 1 ++ key 1 3)
     ∷ judged ruleA D1 true (key 1 1 ++ key 1 2)
-    ∷ judged ruleA (row 1 1 0 1 11) false (key 1 1)
+    ∷ judged ruleA (row 1 1 0 0 1 11) false (key 1 1)
     -- a reading over roots. For every b: what is false elsewhere is false for each own b, and stays open without one; what is true
     -- elsewhere is true with an own b and without one
-    ∷ sends (aThenB 6 5) 3 (row 1 1 0 1 6) (row 1 1 0 1 6)
-    ∷ sends (aThenB 6 5) 3 (row 1 1 0 1 6 ++ row 1 2 0 2 9) (row 1 2 0 2 9)
-    ∷ sends (aThenB 5 5) 3 (row 1 1 0 1 5) []
-    ∷ sends (aThenB 5 5) 3 (row 1 1 0 1 5 ++ row 1 2 0 2 9) (row 1 2 0 2 9)
+    ∷ sends (aThenB 6 5) 3 (row 1 1 0 0 1 6) (row 1 1 0 0 1 6)
+    ∷ sends (aThenB 6 5) 3 (row 1 1 0 0 1 6 ++ row 1 2 0 0 2 9) (row 1 2 0 0 2 9)
+    ∷ sends (aThenB 5 5) 3 (row 1 1 0 0 1 5) []
+    ∷ sends (aThenB 5 5) 3 (row 1 1 0 0 1 5 ++ row 1 2 0 0 2 9) (row 1 2 0 0 2 9)
     -- for some b, true and false exchanged
-    ∷ sends (aThenB 5 6) 3 (row 1 1 0 1 5) (row 1 1 0 1 5)
-    ∷ sends (aThenB 5 6) 3 (row 1 1 0 1 5 ++ row 1 2 0 2 9) (row 1 2 0 2 9)
-    ∷ sends (aThenB 6 6) 3 (row 1 1 0 1 6) []
-    ∷ sends (aThenB 6 6) 3 (row 1 1 0 1 6 ++ row 1 2 0 2 9) (row 1 2 0 2 9)
+    ∷ sends (aThenB 5 6) 3 (row 1 1 0 0 1 5) (row 1 1 0 0 1 5)
+    ∷ sends (aThenB 5 6) 3 (row 1 1 0 0 1 5 ++ row 1 2 0 0 2 9) (row 1 2 0 0 2 9)
+    ∷ sends (aThenB 6 6) 3 (row 1 1 0 0 1 6) []
+    ∷ sends (aThenB 6 6) 3 (row 1 1 0 0 1 6 ++ row 1 2 0 0 2 9) (row 1 2 0 0 2 9)
     -- paths of two pairs
     ∷ judged ruleAddresses (router 77) false (key 1 1 ++ key 1 2 ++ key 1 3 ++ key 1 4 ++ key 1 5)
     ∷ judged ruleAddresses (router 78) true (key 1 1 ++ key 1 2 ++ key 1 3 ++ key 1 4 ++ key 1 5)
     -- without check 12 the sets of values and the rows differ: two nodes 1 = 5, of which one has a child; so on two
     -- devices, and under one parent
-    ∷ differs everyHasOne (row 1 1 0 1 5 ++ row 1 2 1 2 1 ++ row 1 3 0 1 5) (Refused 12 2) true false
-    ∷ differs everyHasOne (row 1 1 0 1 5 ++ row 1 2 1 2 1 ++ row 2 1 0 1 5) (Refused 12 2) true false
-    ∷ differs everyBelowHasOne (row 1 1 0 9 7 ++ row 1 2 1 1 5 ++ row 1 3 2 2 1 ++ row 1 4 1 1 5) (Refused 12 3) true false
+    ∷ differs everyHasOne (row 1 1 0 0 1 5 ++ row 1 2 1 1 2 1 ++ row 1 3 0 0 1 5) (Refused 12 2) true false
+    ∷ differs everyHasOne (row 1 1 0 0 1 5 ++ row 1 2 1 1 2 1 ++ row 2 1 0 0 1 5) (Refused 12 2) true false
+    ∷ differs everyBelowHasOne (row 1 1 0 0 9 7 ++ row 1 2 1 1 1 5 ++ row 1 3 2 2 2 1 ++ row 1 4 1 1 1 5) (Refused 12 3) true false
     ∷ []
 
 -- the claim

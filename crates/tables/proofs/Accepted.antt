@@ -69,6 +69,9 @@ module _ (t : List ℕ) where
     pub behind : (p i : ℕ) → p < rowCount t → i < rowCount t → isParent (rowAt t i) (rowAt t p) ≡ true → p < i
     behind = laws.behind t ordered
 
+    pub depth-le : (i : ℕ) → i < rowCount t → rowAt t i .deep ≤ i
+    depth-le = laws.depth-le t ordered
+
     module _ (d i : ℕ) (h : i < rowCount t) where
       pub in-part : fromDevice t d ≤ i → i < fromDevice t (d + 1) → rowAt t i .device ≡ d
       in-part = laws.in-part t ordered d i h

@@ -14,8 +14,8 @@ use Rattle.base.proofs.Bools.{either, or-left, or-right}
 use Rattle.tables.specs.Words.{entryAt, entryCount, rowAt, rowCount}
 use Rattle.tables.specs.Rules.{nestingLimit, unknownKind, badWord, badChild, unbound, isQuantifier, namings, around, entryFault, ruleLength, ruleChecks, checkRule}
 use Rattle.tables.specs.Answers.{unlessAny, inOrder}
-use Rattle.tables.specs.Tables.{outOfRange, isAbove, rowFault, tableLength, tableChecks, checkTable}
-use Rattle.tables.specs.Chains.{plainFault, linkFault}
+use Rattle.tables.specs.Tables.{outOfRange, isAbove, hasTwin, rowFault, tableLength, tableChecks, checkTable}
+use Rattle.tables.specs.Links.{plainFault, FirstFaults}
 use Rattle.tables.specs.declared.Entry.{Entry}
 use Rattle.tables.specs.declared.Row.{Row}
 use Rattle.tables.specs.declared.Answer.{Answer}
@@ -110,19 +110,66 @@ module _ (t : List ℕ) (k i : ℕ) (r : Row) (r-is : r ≡ rowAt t i) where
       ap not (h ∙ ap (λ (x : Row). isAbove x q) r-is ∙ ap (λ (x : Row). isAbove (rowAt t i) x) q-is)
       ∙ sym (rw (ne-eqb k 9 n, lt-ltb 0 i l))
 
-module _ (t : List ℕ) (k : ℕ) where
-  plain-at : (eqb k 9 || eqb k 10) ≡ true → (i : ℕ) → plainFault k t i ≡ rowFault t k i
-  unfolding plainFault rowFault
-  plain-at h i = either (eqb k 9) (λ e. rw e) (λ e. let z : eqb k 10 ≡ true = (rw e at h) in rw (e, z))
+-- ---- the checks of a table in their order: where one stops, and that all are passed
+module _ (t : List ℕ) (short : tableLength t ≡ true) where
+  abbrev n : ℕ
+  n = rowCount t
 
-  link-at : (eqb k 9 || eqb k 10) ≡ false → (i : ℕ) → linkFault k t i ≡ rowFault t k i
-  unfolding linkFault rowFault
-  link-at h i = rw (or-left (eqb k 9) (eqb k 10) h, or-right (eqb k 9) (eqb k 10) h)
+  -- the answer is that of the checks from the k-th on
+  abbrev Left : ℕ → Type 0
+  Left k = Tested (checkTable t) (rowFault t) n tableChecks k
 
-  pub plain-first-is : (n m : ℕ) → (eqb k 9 || eqb k 10) ≡ true → m ≡ first (plainFault k t) n → m ≡ first (rowFault t k) n
-  plain-first-is n m h e = e ∙ ap (λ (p : ℕ → Bool). first p n) (fun-ext (plain-at h))
+  module _ {a : ℕ} (a-is : a ≡ first (plainFault 9 t) n) where
+    fault-9 : a ≡ first (rowFault t 9) n
+    unfolding plainFault rowFault
+    fault-9 = a-is
 
-  pub link-first-is : (u : List ℕ) (n m : ℕ) → u ≡ [] → (eqb k 9 || eqb k 10) ≡ false → m ≡ first (linkFault k (t ++ u)) n → m ≡ first (rowFault t k) n
-  link-first-is u n m u-is h e =
-      e ∙ ap (λ (x : List ℕ). first (linkFault k (t ++ x)) n) u-is ∙ ap (λ (x : List ℕ). first (linkFault k x) n) (append-nil t)
-      ∙ ap (λ (p : ℕ → Bool). first p n) (fun-ext (link-at h))
+    pub stop-9 : a < n → Refused 9 a ≡ checkTable t
+    stop-9 = test-hit (table-begin t short) (omega arith) fault-9
+
+    module _ (a-past : n ≤ a) {b : ℕ} (b-is : b ≡ first (plainFault 10 t) n) where
+      left-10 : Left 1
+      left-10 = test-more (table-begin t short) (omega arith) fault-9 a-past
+
+      fault-10 : b ≡ first (rowFault t 10) n
+      unfolding plainFault rowFault
+      fault-10 = b-is
+
+      pub stop-10 : b < n → Refused 10 b ≡ checkTable t
+      stop-10 = test-hit left-10 (omega arith) fault-10
+
+      module _ (b-past : n ≤ b) {orphan depth : ℕ} (faults : FirstFaults t n orphan depth) where
+        left-11 : Left 2
+        left-11 = test-more left-10 (omega arith) fault-10 b-past
+
+        fault-11 : orphan ≡ first (rowFault t 11) n
+        unfolding rowFault
+        fault-11 = faults .orphan-is
+
+        pub stop-11 : orphan < n → Refused 11 orphan ≡ checkTable t
+        stop-11 = test-hit left-11 (omega arith) fault-11
+
+        module _ (orphan-past : n ≤ orphan) where
+          left-26 : Left 3
+          left-26 = test-more left-11 (omega arith) fault-11 orphan-past
+
+          fault-26 : depth ≡ first (rowFault t 26) n
+          unfolding rowFault
+          fault-26 = faults .depth-is orphan-past
+
+          pub stop-26 : depth < n → Refused 26 depth ≡ checkTable t
+          stop-26 = test-hit left-26 (omega arith) fault-26
+
+          module _ (depth-past : n ≤ depth) {u : List ℕ} (u-is : u ≡ []) {twin : ℕ} (twin-is : twin ≡ first (hasTwin (t ++ u)) n) where
+            left-12 : Left 4
+            left-12 = test-more left-26 (omega arith) fault-26 depth-past
+
+            fault-12 : twin ≡ first (rowFault t 12) n
+            unfolding rowFault
+            fault-12 = twin-is ∙ ap (λ (x : List ℕ). first (hasTwin x) n) (ap (_++_ t) u-is ∙ append-nil t)
+
+            pub stop-12 : twin < n → Refused 12 twin ≡ checkTable t
+            stop-12 = test-hit left-12 (omega arith) fault-12
+
+            pub all-passed : n ≤ twin → Done n ≡ checkTable t
+            all-passed past = test-end (test-more left-12 (omega arith) fault-12 past) (omega arith)

@@ -11,8 +11,7 @@ use borrow.Author.Tests.{eq-eqb, ne-eqb, lt-ltb, le-ltb, le-leb, lt-leb, leb-tru
 use Rattle.base.specs.Search.{first}
 use Rattle.tables.specs.Answers.{isDone, unless, unlessAny}
 use Rattle.tables.specs.Words.{rowWords, rowAt, rowCount}
-use Rattle.tables.specs.Tables.{rowLimit, rowFault, tableLength, checkTable, acceptedTable}
-use Rattle.tables.specs.Chains.{linkFault}
+use Rattle.tables.specs.Tables.{rowLimit, hasTwin, rowFault, tableLength, checkTable, acceptedTable}
 use Rattle.tables.specs.Joining.{follows, joinTables, joinAnswer, joinPool}
 use Rattle.tables.specs.declared.Row.{Row}
 use Rattle.tables.specs.declared.Answer.{Answer}
@@ -93,10 +92,10 @@ module _ (s t : List ℕ) (room : ℕ) where
               let l : length (s ++ t) ≡ length s + length t = length-append s t in
               passed-16 ∙ simp (eq-eqb (length (s ++ t) % rowWords) 0 both-whole, le-leb (rowCount (s ++ t)) rowLimit (rw l few))
 
-          module _ (i : ℕ) (i-is : i ≡ first (linkFault 12 (s ++ t)) ((length s + length t) / rowWords)) where
+          module _ (i : ℕ) (i-is : i ≡ first (hasTwin (s ++ t)) ((length s + length t) / rowWords)) where
             place-is : i ≡ first (rowFault (s ++ t) 12) (rowCount (s ++ t))
-            unfolding linkFault rowFault
-            place-is = i-is ∙ ap (λ (n : ℕ). first (linkFault 12 (s ++ t)) (n / rowWords)) (sym (length-append s t))
+            unfolding rowFault
+            place-is = i-is ∙ ap (λ (n : ℕ). first (hasTwin (s ++ t)) (n / rowWords)) (sym (length-append s t))
 
             count-is : (length s + length t) / rowWords ≡ rowCount (s ++ t)
             count-is = ap (λ (n : ℕ). n / rowWords) (sym (length-append s t))

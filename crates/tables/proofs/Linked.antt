@@ -1,7 +1,7 @@
 -- Rows linked by hash: what the two loops keep, for any hash, test and fault. Assumes nothing.
 use Prim.Native.Nat.{ℕ, zero, suc, _+_, _-_, _<_, _≤_}
-use mathlib.Core.Path.{_≡_, refl, sym, ap, ap₂, _∙_}
-use mathlib.Core.Bool.{Bool, true, false, cond, not, _&&_, _||_, true≢false}
+use mathlib.Core.Path.{_≡_, refl, sym, ap, ap₂, fun-ext, _∙_}
+use mathlib.Core.Bool.{Bool, true, false, cond, not, _&&_, _||_, and-true, true≢false, false≢true}
 use mathlib.Core.List.{List}
 use native.Mathlib.Numerals.{add-one}
 use native.Mathlib.Decide.{decLt}
@@ -9,14 +9,14 @@ use native.Mathlib.Omega.{arith}
 use lib.ListN.{getD, set, length-set, replicate}
 use lib.Seq.{getD-set-same, getD-set-other}
 use lib.Dec.{eqb}
-use borrow.Author.Tests.{eqb-true, eq-eqb, ne-eqb, ltb-true}
+use borrow.Author.Tests.{eqb-true, eq-eqb, ne-eqb, ltb-true, not-false}
 use Rattle.base.specs.Search.{first, some}
 use Rattle.base.proofs.Bools.{either, and-left, and-right}
-use Rattle.base.proofs.Search.{Passed, begin, hit, miss, at-first, none-at, some-at, some-none}
+use Rattle.base.proofs.Search.{Passed, begin, hit, miss, none, at-first, none-at, some-at, some-none}
 use Rattle.tables.specs.Words.{rowAt}
-use Rattle.tables.specs.Tables.{root, isTwin, isParent, rowLimit}
+use Rattle.tables.specs.Tables.{root, isTwin, isParent, isDeeper, noParent, wrongDepth, hasTwin, rowLimit}
 use Rattle.tables.specs.declared.Row.{Row}
-use Rattle.tables.specs.Chains.{lastOf, matchOf, faultOf, linkFault, hashes, hashOf, twinHash, ownHash, soughtHash, hashAt, Linked, Heads}
+use Rattle.tables.specs.Links.{lastOf, hashes, hashOf, placeHash, placesAt, fitsParent, wrongBefore, orphanBefore, faultBefore, notedOf, FirstFaults, twinHash, twinsAt, Linked, Heads}
 
 -- ---- the last number at which a test holds
 module _ (p : ℕ → Bool) where
@@ -46,63 +46,69 @@ module _ (p : ℕ → Bool) where
       (λ e. let q : suc n - 1 ≡ n = omega arith in rw (e, q) e)
       (λ e. let m : 0 < lastOf p n = (rw e at l) in rw e (last-at n m))
 
--- ---- a walk along a chain: it looks for a number at which p holds, and p asks for hash h
+-- ---- a walk along a chain: it looks for a number at which p holds, and such numbers have hash h
 pub record Seeks (hash : ℕ → ℕ) (p : ℕ → Bool) (h i k : ℕ) : Type 0 where
+  pub agrees : (j : ℕ) → p j ≡ true → hash j ≡ h
   pub within : k ≤ i
   pub passed : (j : ℕ) → k ≤ j → j < i → p j ≡ false
   pub hashed : 0 < k → hash (k - 1) ≡ h
 
-module _ (hash : ℕ → ℕ) (p : ℕ → Bool) (h i : ℕ) (agrees : (j : ℕ) → p j ≡ true → hash j ≡ h) where
-  not-there : (j : ℕ) → eqb (hash j) h ≡ false → p j ≡ false
-  not-there j e = either (p j) (λ s. absurd (true≢false (sym (eq-eqb _ _ (agrees j s)) ∙ e))) (λ s. s)
-
-  last-seeks : (n : ℕ) → n ≤ i → ((j : ℕ) → n ≤ j → j < i → p j ≡ false) → (k : ℕ) → k ≡ lastOf (λ m. eqb (hash m) h) n → Seeks hash p h i k
-  last-seeks n l f k e =
-      let b : lastOf (λ m. eqb (hash m) h) n ≤ n = last-le (λ m. eqb (hash m) h) n in
+module _ {hash : ℕ → ℕ} {p : ℕ → Bool} {h i : ℕ} where
+  last-seeks : ((j : ℕ) → p j ≡ true → hash j ≡ h) → (n : ℕ) → n ≤ i → ((j : ℕ) → n ≤ j → j < i → p j ≡ false)
+      → (k : ℕ) → k ≡ lastOf (λ m. eqb (hash m) h) n → Seeks hash p h i k
+  last-seeks agrees n l f k e =
+      let q : ℕ → Bool = λ m. eqb (hash m) h in
+      let b : lastOf q n ≤ n = last-le q n in
       record {
+        agrees = agrees;
         within = omega arith;
         passed = λ j a c. elim (decLt j n) [
-          | yes y ↦ not-there j (last-none (λ m. eqb (hash m) h) n j (omega arith) y)
+          | yes y ↦ not-there j (last-none q n j (omega arith) y)
           | no z ↦ f j (omega arith) c
         ];
-        hashed = λ a. eqb-true _ _ (ap (λ (x : ℕ). eqb (hash (x - 1)) h) e ∙ last-at (λ m. eqb (hash m) h) n (rw e at a));
+        hashed = λ a. eqb-true _ _ (ap (λ (x : ℕ). eqb (hash (x - 1)) h) e ∙ last-at q n (rw e at a));
       }
+    where
+      not-there : (j : ℕ) → eqb (hash j) h ≡ false → p j ≡ false
+      not-there j e = either (p j) (λ s. absurd (true≢false (sym (eq-eqb _ _ (agrees j s)) ∙ e))) (λ s. s)
 
-  pub seek-begin : (k : ℕ) → k ≡ lastOf (λ m. eqb (hash m) h) i → Seeks hash p h i k
-  seek-begin k e = last-seeks i (omega arith) (λ j a c. absurd (omega arith)) k e
+  pub seek-begin : ((j : ℕ) → p j ≡ true → hash j ≡ h) → (k : ℕ) → k ≡ lastOf (λ m. eqb (hash m) h) i → Seeks hash p h i k
+  seek-begin agrees k e = last-seeks agrees i (omega arith) (λ j a c. absurd (omega arith)) k e
 
-  pub seek-next : (next : List ℕ) → Linked hash next i → (k : ℕ) → Seeks hash p h i k → 0 < k → p (k - 1) ≡ false → Seeks hash p h i (getD next (k - 1) 0)
-  seek-next next l k s z e =
-      let w : k ≤ i = s .within in
-      last-seeks (k - 1) (omega arith)
-      (λ j a c. elim (decLt j k) [
-        | yes y ↦ let q : j ≡ k - 1 = omega arith in ap p q ∙ e
-        | no n ↦ s .passed j (omega arith) c
-      ])
-      (getD next (k - 1) 0)
-      (l .links (k - 1) (omega arith) ∙ ap (λ (x : ℕ). lastOf (λ m. eqb (hash m) x) (k - 1)) (s .hashed z))
+  module _ {k : ℕ} (s : Seeks hash p h i k) where
+    pub seek-next : {next : List ℕ} → Linked hash next i → 0 < k → p (k - 1) ≡ false → Seeks hash p h i (getD next (k - 1) 0)
+    seek-next {next} l z e =
+        let w : k ≤ i = s .within in
+        last-seeks (s .agrees) (k - 1) (omega arith)
+        (λ j a c. elim (decLt j k) [
+          | yes y ↦ let q : j ≡ k - 1 = omega arith in ap p q ∙ e
+          | no n ↦ s .passed j (omega arith) c
+        ])
+        (getD next (k - 1) 0)
+        (l .links (k - 1) (omega arith) ∙ ap (λ (x : ℕ). lastOf (λ m. eqb (hash m) x) (k - 1)) (s .hashed z))
 
-  pub seek-falls : (next : List ℕ) → Linked hash next i → (k : ℕ) → Seeks hash p h i k → 0 < k → getD next (k - 1) 0 < k
-  seek-falls next l k s z =
-      let w : k ≤ i = s .within in
-      let b : lastOf (λ m. eqb (hash m) (hash (k - 1))) (k - 1) ≤ k - 1 = last-le (λ m. eqb (hash m) (hash (k - 1))) (k - 1) in
-      let e : getD next (k - 1) 0 ≡ lastOf (λ m. eqb (hash m) (hash (k - 1))) (k - 1) = l .links (k - 1) (omega arith) in
-      omega arith
+    pub seek-falls : {next : List ℕ} → Linked hash next i → 0 < k → getD next (k - 1) 0 < k
+    seek-falls {next} l z =
+        let q : ℕ → Bool = λ m. eqb (hash m) (hash (k - 1)) in
+        let w : k ≤ i = s .within in
+        let b : lastOf q (k - 1) ≤ k - 1 = last-le q (k - 1) in
+        let e : getD next (k - 1) 0 ≡ lastOf q (k - 1) = l .links (k - 1) (omega arith) in
+        omega arith
 
-  pub seek-hit : (k : ℕ) → Seeks hash p h i k → 0 < k → p (k - 1) ≡ true → true ≡ some p i
-  seek-hit k s z e = sym (some-at p i (k - 1) (omega (arith, s .within)) e)
+    pub seek-hit : 0 < k → p (k - 1) ≡ true → true ≡ some p i
+    seek-hit z e = sym (some-at p i (k - 1) (omega (arith, s .within)) e)
 
-  -- where the chain is left, the rest of the rows tells
-  pub seek-rest : (k : ℕ) → Seeks hash p h i k → some p k ≡ some p i
-  seek-rest k s = either (some p k)
-      (λ e. let l : first p k < k = ltb-true _ _ e in e ∙ sym (some-at p i (first p k) (omega (arith, s .within)) (at-first p k l)))
-      (λ e. e ∙ sym (some-none p i (λ j l. elim (decLt j k) [
-        | yes y ↦ none-at p k j e y
-        | no z ↦ s .passed j (omega arith) l
-      ])))
+    -- where the chain is left, the rest of the rows tells
+    pub seek-rest : some p k ≡ some p i
+    seek-rest = either (some p k)
+        (λ e. let l : first p k < k = ltb-true _ _ e in e ∙ sym (some-at p i (first p k) (omega (arith, s .within)) (at-first p k l)))
+        (λ e. e ∙ sym (some-none p i (λ j l. elim (decLt j k) [
+          | yes y ↦ none-at p k j e y
+          | no z ↦ s .passed j (omega arith) l
+        ])))
 
-  pub seek-end : (k : ℕ) → Seeks hash p h i k → k ≤ 0 → false ≡ some p i
-  seek-end k s z = sym (some-none p i (λ j l. s .passed j (omega arith) l))
+    pub seek-end : k ≤ 0 → false ≡ some p i
+    seek-end z = sym (some-none p i (λ j l. s .passed j (omega arith) l))
 
 -- ---- one row more
 module _ (hash : ℕ → ℕ) (i k : ℕ) (k-is : k ≡ lastOf (λ m. eqb (hash m) (hash i)) i) (room : i < rowLimit) where
@@ -127,6 +133,10 @@ module _ (hash : ℕ → ℕ) (i k : ℕ) (k-is : k ≡ lastOf (λ m. eqb (hash 
 pub head-le : (hash : ℕ → ℕ) (head : List ℕ) (i : ℕ) → Heads hash head i → (h : ℕ) → h < hashes → getD head h 0 ≤ i
 head-le hash head i s h l = omega (arith, s .lasts h l, last-le (λ m. eqb (hash m) h) i)
 
+-- where a chain begins
+pub last-is : (hash : ℕ → ℕ) (head : List ℕ) (i : ℕ) → Heads hash head i → {h x : ℕ} → h ≡ x → x < hashes → getD head h 0 ≡ lastOf (λ m. eqb (hash m) x) i
+last-is hash head i s e l = s .lasts _ (omega arith) ∙ ap (λ (y : ℕ). lastOf (λ m. eqb (hash m) y) i) e
+
 -- ---- nothing yet
 getD-same : (z n j : ℕ) → getD (replicate n z) j z ≡ z
 getD-same z zero j = refl
@@ -146,57 +156,142 @@ pub record Looking (hash : ℕ → ℕ) (fault : ℕ → Bool) (n : ℕ) (head n
   pub linked : Linked hash next i
   pub heads : Heads hash head i
 
-module _ (hash : ℕ → ℕ) (fault : ℕ → Bool) (n : ℕ) where
-  pub look-begin : Looking hash fault n (replicate hashes 0) (replicate rowLimit 0) 0
-  look-begin = record { passed = begin fault n; linked = linked-none hash; heads = heads-none hash }
+pub look-begin : (hash : ℕ → ℕ) (fault : ℕ → Bool) (n : ℕ) → Looking hash fault n (replicate hashes 0) (replicate rowLimit 0) 0
+look-begin hash fault n = record { passed = begin fault n; linked = linked-none hash; heads = heads-none hash }
 
-  module _ (head next : List ℕ) (i : ℕ) (look : Looking hash fault n head next i) (l : i < n) (b : Bool) (b-is : b ≡ fault i) where
-    pub look-hit : b ≡ true → i ≡ first fault n
-    look-hit e = hit fault n i (look .passed) l (sym b-is ∙ e)
+module _ {hash : ℕ → ℕ} {fault : ℕ → Bool} {n : ℕ} {head next : List ℕ} {i : ℕ} (look : Looking hash fault n head next i) (l : i < n) where
+  pub look-hit : fault i ≡ true → i ≡ first fault n
+  look-hit e = hit fault n i (look .passed) l e
 
-    pub look-more : b ≡ false → n ≤ rowLimit → (h : ℕ) → h ≡ hash i → h < hashes
-        → Looking hash fault n (set head h (i + 1)) (set next i (getD head h 0)) (i + 1)
-    look-more e small h h-is below =
-        let k-is : getD head h 0 ≡ lastOf (λ m. eqb (hash m) (hash i)) i = look .heads .lasts h below ∙ ap (λ (x : ℕ). lastOf (λ m. eqb (hash m) x) i) h-is in
-        record {
-          passed = miss fault n i (look .passed) l (sym b-is ∙ e);
-          linked = linked-more hash i (getD head h 0) k-is (omega arith) next (look .linked);
-          heads = heads-more hash i (getD head h 0) k-is (omega arith) head h h-is below (look .heads);
-        }
+  pub look-more : fault i ≡ false → n ≤ rowLimit → {h : ℕ} → h ≡ hash i → h < hashes
+      → Looking hash fault n (set head h (i + 1)) (set next i (getD head h 0)) (i + 1)
+  look-more e small {h} h-is below =
+      let k-is : getD head h 0 ≡ lastOf (λ m. eqb (hash m) (hash i)) i
+      = look .heads .lasts h below ∙ ap (λ (x : ℕ). lastOf (λ m. eqb (hash m) x) i) h-is in
+      record {
+        passed = miss fault n i (look .passed) l e;
+        linked = linked-more hash i (getD head h 0) k-is (omega arith) next (look .linked);
+        heads = heads-more hash i (getD head h 0) k-is (omega arith) head h h-is below (look .heads);
+      }
 
--- ---- the hashes of both checks
-hash-below : (d a n v : ℕ) → hashOf d a n v < hashes
+-- ---- a first place that is noted while a search goes on: none so far, or found
+pub record Noted (fault : ℕ → Bool) (n d i : ℕ) : Type 0 where
+  pub none-yet : d ≡ n → Passed fault n i
+  pub found : (d ≡ n → ⊥) → d ≡ first fault n
+
+module _ (fault : ℕ → Bool) (n : ℕ) where
+  pub note-begin : Noted fault n n 0
+  note-begin = record { none-yet = λ e. begin fault n; found = λ e. absurd (e refl) }
+
+  pub note-more : (d i : ℕ) → Noted fault n d i → i < n → (b : Bool) → b ≡ fault i → Noted fault n (notedOf d n i b) (i + 1)
+  unfolding notedOf
+  note-more d i noted l b b-is = go b (eqb d n) refl b-is
+    where
+      go : (b z : Bool) → eqb d n ≡ z → b ≡ fault i → Noted fault n (cond (b && z) i d) (i + 1)
+      go true true e f = record { none-yet = λ q. absurd (omega arith); found = λ q. hit fault n i (noted .none-yet (eqb-true d n e)) l (sym f) }
+      go true false e f = record { none-yet = λ q. absurd (true≢false (sym (eq-eqb d n q) ∙ e)); found = noted .found }
+      go false z e f = record { none-yet = λ q. miss fault n i (noted .none-yet q) l (sym f); found = noted .found }
+
+  pub note-end : (d i : ℕ) → Noted fault n d i → n ≤ i → d ≡ first fault n
+  note-end d i noted l = either (eqb d n)
+      (λ e. eqb-true d n e ∙ none fault n i (noted .none-yet (eqb-true d n e)) l)
+      (λ e. noted .found (λ q. true≢false (sym (eq-eqb d n q) ∙ e)))
+
+-- ---- hashes
+pub hash-below : (d a n v : ℕ) → hashOf d a n v < hashes
 unfolding hashOf
 hash-below d a n v = omega arith
 
-twin-below : (r : Row) → twinHash r < hashes
+pub place-below : (d a : ℕ) → placeHash d a < hashes
+unfolding placeHash
+place-below d a = hash-below _ _ _ _
+
+pub twin-below : (r : Row) → twinHash r < hashes
 unfolding twinHash
 twin-below r = hash-below _ _ _ _
 
-pub own-below : (k : ℕ) (r : Row) → ownHash k r < hashes
-unfolding ownHash
-own-below k r = go (eqb k 11)
-  where
-    go : (z : Bool) → cond z (hashOf (r .device) (r .at) 0 0) (twinHash r) < hashes
-    go true = hash-below _ _ _ _
-    go false = twin-below r
+-- ---- parents: one has the hash of device and up
+pub parent-hash : (deep : Bool) (r p : Row) → fitsParent deep r p ≡ true → placeHash (p .device) (p .at) ≡ placeHash (r .device) (r .up)
+unfolding fitsParent
+parent-hash deep r p e =
+    let d : Bool = eqb (p .device) (r .device) in
+    let a : Bool = eqb (p .at) (r .up) in
+    let f : d && a ≡ true = and-left (d && a) (not deep || isDeeper r p) e in
+    ap₂ placeHash (eqb-true _ _ (and-left d a f)) (eqb-true _ _ (and-right d a f))
 
-pub sought-below : (k : ℕ) (r : Row) → soughtHash k r < hashes
-unfolding soughtHash
-sought-below k r = go (eqb k 11)
-  where
-    go : (z : Bool) → cond z (hashOf (r .device) (r .up) 0 0) (twinHash r) < hashes
-    go true = hash-below _ _ _ _
-    go false = twin-below r
+module _ (t : List ℕ) (i : ℕ) (r : Row) where
+  pub root-wrong : root r ≡ true → not (eqb (r .deep) 0) ≡ wrongBefore t i r
+  unfolding wrongBefore
+  root-wrong e = sym (rw e)
 
--- a row that matches has the sought hash
-parent-hash : (r b : Row) → isParent r b ≡ true → hashOf (b .device) (b .at) 0 0 ≡ hashOf (r .device) (r .up) 0 0
-parent-hash r b e =
-    let d : Bool = eqb (b .device) (r .device) in
-    let a : Bool = eqb (b .at) (r .up) in
-    ap₂ (λ (x y : ℕ). hashOf x y 0 0) (eqb-true _ _ (and-left d a e)) (eqb-true _ _ (and-right d a e))
+  pub child-wrong : root r ≡ false → (b : Bool) → b ≡ some (λ j. fitsParent true r (rowAt t j)) i → not b ≡ wrongBefore t i r
+  unfolding wrongBefore
+  child-wrong e b b-is = ap not b-is ∙ sym (rw e)
 
-same-hash : (r b : Row) → isTwin r b ≡ true → twinHash b ≡ twinHash r
+  pub root-orphan : root r ≡ true → false ≡ orphanBefore t i r
+  unfolding orphanBefore
+  root-orphan e = sym (rw e)
+
+  pub child-orphan : root r ≡ false → (b : Bool) → b ≡ some (λ j. fitsParent false r (rowAt t j)) i → not b ≡ orphanBefore t i r
+  unfolding orphanBefore
+  child-orphan e b b-is = ap not b-is ∙ sym (rw e)
+
+  module _ (r-is : r ≡ rowAt t i) where
+    pub wrong-is : (b : Bool) → b ≡ wrongBefore t i r → b ≡ wrongDepth t i
+    unfolding wrongBefore fitsParent
+    wrong-is b b-is = b-is ∙ ap (wrongBefore t i) r-is
+
+    pub orphan-is : (b : Bool) → b ≡ orphanBefore t i r → b ≡ noParent t i
+    unfolding orphanBefore fitsParent
+    orphan-is b b-is = b-is ∙ ap (orphanBefore t i) r-is ∙ ap (λ (p : ℕ → Bool). not (root (rowAt t i)) && not (some p i)) (fun-ext (λ j. and-true (isParent (rowAt t i) (rowAt t j))))
+
+-- a row without its parent has no right depth
+pub depth-parent : (t : List ℕ) (i : ℕ) → wrongDepth t i ≡ false → noParent t i ≡ false
+depth-parent t i e = either (root (rowAt t i))
+    (λ o. rw o)
+    (λ o.
+    let fits : ℕ → Bool = λ j. isParent (rowAt t i) (rowAt t j) && isDeeper (rowAt t i) (rowAt t j) in
+    let s : some fits i ≡ true = not-false _ (rw o at e) in
+    let l : first fits i < i = ltb-true _ _ s in
+    rw (o, some-at (λ j. isParent (rowAt t i) (rowAt t j)) i (first fits i) l (and-left (isParent (rowAt t i) (rowAt t (first fits i))) _ (at-first fits i l))))
+
+-- what the number of its fault tells of row i
+module _ (t : List ℕ) (i : ℕ) (r : Row) (r-is : r ≡ rowAt t i) (f : ℕ) (f-is : f ≡ faultBefore t i r) where
+  abbrev wrong : Bool
+  wrong = wrongBefore t i r
+
+  abbrev orphan : Bool
+  orphan = orphanBefore t i r
+
+  pub fault-orphan : f ≡ 11 → noParent t i ≡ true
+  unfolding faultBefore
+  fault-orphan e = sym (orphan-is t i r r-is true (sym (go wrong orphan (sym f-is ∙ e))))
+    where
+      go : (a b : Bool) → _≡_ {A = ℕ} (cond a (cond b 11 26) 0) 11 → b ≡ true
+      go true true z = refl
+      go true false z = absurd (omega arith)
+      go false b z = absurd (omega arith)
+
+  pub fault-parent : (f ≡ 11 → ⊥) → noParent t i ≡ false
+  unfolding faultBefore
+  fault-parent h = go wrong orphan refl refl
+    where
+      go : (a b : Bool) → wrong ≡ a → orphan ≡ b → noParent t i ≡ false
+      go true true p q = absurd (h (f-is ∙ rw (p, q)))
+      go true false p q = sym (orphan-is t i r r-is false (sym q))
+      go false b p q = depth-parent t i (sym (wrong-is t i r r-is false (sym p)))
+
+  pub fault-depth : (f ≡ 11 → ⊥) → eqb f 26 ≡ wrongDepth t i
+  unfolding faultBefore
+  fault-depth h = go wrong orphan refl refl
+    where
+      go : (a b : Bool) → wrong ≡ a → orphan ≡ b → eqb f 26 ≡ wrongDepth t i
+      go true true p q = absurd (h (f-is ∙ rw (p, q)))
+      go true false p q = eq-eqb f 26 (f-is ∙ rw (p, q)) ∙ wrong-is t i r r-is true (sym p)
+      go false b p q = ne-eqb f 26 (λ e. let z : f ≡ 0 = f-is ∙ rw p in omega arith) ∙ wrong-is t i r r-is false (sym p)
+
+-- ---- siblings: equal ones have one hash
+pub same-hash : (r b : Row) → isTwin r b ≡ true → twinHash b ≡ twinHash r
 unfolding twinHash
 same-hash r b e =
     let a : Bool = eqb (b .up) (r .up) in
@@ -216,39 +311,6 @@ same-hash r b e =
         go true o = refl
         go false o = eqb-true d d′ o
 
-pub match-hash : (k : ℕ) (r b : Row) → matchOf k r b ≡ true → ownHash k b ≡ soughtHash k r
-unfolding matchOf ownHash soughtHash
-match-hash k r b e = go (eqb k 11) e
-  where
-    go : (z : Bool) → cond z (isParent r b) (isTwin r b) ≡ true → cond z (hashOf (b .device) (b .at) 0 0) (twinHash b) ≡ cond z (hashOf (r .device) (r .up) 0 0) (twinHash r)
-    go true h = parent-hash r b h
-    go false h = same-hash r b h
-
--- ---- row i, read as r: its place in the chains, and what the search makes of it
-module _ (k : ℕ) (t : List ℕ) (i : ℕ) (r : Row) (r-is : r ≡ rowAt t i) where
-  pub sought-last : (h : ℕ) → h ≡ soughtHash k r → (head : List ℕ) → Heads (hashAt k t) head i → getD head h 0 ≡ lastOf (λ m. eqb (hashAt k t m) (soughtHash k r)) i
-  sought-last h h-is head s =
-      let b : soughtHash k r < hashes = sought-below k r in
-      s .lasts h (omega arith) ∙ ap (λ (x : ℕ). lastOf (λ m. eqb (hashAt k t m) x) i) h-is
-
-  pub own-is : (h : ℕ) → h ≡ ownHash k r → h ≡ hashAt k t i
-  own-is h h-is = h-is ∙ ap (ownHash k) r-is
-
-  pub link-fault : (b : Bool) → b ≡ faultOf k r (some (λ j. matchOf k r (rowAt t j)) i) → b ≡ linkFault k t i
-  unfolding matchOf faultOf linkFault
-  link-fault b b-is =
-      b-is ∙ ap (λ (x : Row). faultOf k x (some (λ j. matchOf k x (rowAt t j)) i)) r-is ∙ go (eqb k 11)
-    where
-      go : (z : Bool) → cond z (not (root (rowAt t i)) && not (some (λ j. cond z (isParent (rowAt t i) (rowAt t j)) (isTwin (rowAt t i) (rowAt t j))) i)) (some (λ j. cond z (isParent (rowAt t i) (rowAt t j)) (isTwin (rowAt t i) (rowAt t j))) i)
-          ≡ cond z (not (root (rowAt t i)) && not (some (λ j. isParent (rowAt t i) (rowAt t j)) i)) (some (λ j. isTwin (rowAt t i) (rowAt t j)) i)
-      go true = refl
-      go false = refl
-
--- ---- the hashes as they are computed
-pub own-sought : (k : ℕ) (r : Row) → (k ≡ 11 → ⊥) → ownHash k r ≡ soughtHash k r
-unfolding ownHash soughtHash
-own-sought k r n = simp (ne-eqb k 11 n)
-
 module _ (r : Row) (d : ℕ) where
   pub root-device : r .up ≡ 0 → d ≡ 0 → d ≡ cond (root r) 0 (r .device)
   root-device z e = simp (eq-eqb (r .up) 0 z) e
@@ -260,21 +322,6 @@ module _ (r : Row) (d : ℕ) where
   unfolding twinHash
   twin-is e = ap (λ (x : ℕ). hashOf x (r .up) (r .name) (r .value)) e
 
--- ---- a row's fault, by what the search found
-module _ (k : ℕ) (r : Row) (found : Bool) where
-  pub root-fault : (eqb k 11 && root r) ≡ true → false ≡ faultOf k r found
-  unfolding faultOf
-  root-fault e = simp (and-left (eqb k 11) (root r) e, and-right (eqb k 11) (root r) e)
-
-  pub parent-fault : (eqb k 11 && root r) ≡ false → k ≡ 11 → not found ≡ faultOf k r found
-  unfolding faultOf
-  parent-fault e q = go (eqb k 11) (root r) (eq-eqb k 11 q) e
-    where
-      go : (a b : Bool) → a ≡ true → (a && b) ≡ false → not found ≡ cond a (not b && not found) found
-      go true false e f = refl
-      go true true e f = absurd (true≢false f)
-      go false b e f = absurd (true≢false (sym e))
-
-  pub twin-fault : (k ≡ 11 → ⊥) → found ≡ faultOf k r found
-  unfolding faultOf
-  twin-fault n = simp (ne-eqb k 11 n)
+-- what the search makes of row i, read as r
+pub twin-found : (t : List ℕ) (i : ℕ) (r : Row) → r ≡ rowAt t i → (b : Bool) → b ≡ some (λ j. isTwin r (rowAt t j)) i → b ≡ hasTwin t i
+twin-found t i r r-is b b-is = b-is ∙ ap (λ (x : Row). some (λ j. isTwin x (rowAt t j)) i) r-is

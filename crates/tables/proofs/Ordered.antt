@@ -1,4 +1,5 @@
--- What a table tells that has no fault but, maybe, 12: whole rows, rows that rise, parents before, devices in one piece. Assumes nothing.
+-- What a table tells that has no fault but, maybe, 12: whole rows, rows that rise, parents before, depths, devices in one piece. Assumes
+-- nothing.
 use Prim.Native.Nat.{ℕ, zero, suc, _+_, _-_, _*_, _≤_, _<_}
 use mathlib.Core.Path.{_≡_, refl, sym, ap, _∙_}
 use mathlib.Core.Logic.{⊎-elim}
@@ -15,7 +16,7 @@ use Rattle.base.proofs.Bools.{either, and-left, and-right, or-left, or-right}
 use Rattle.base.proofs.Search.{at-first, none-before}
 use Rattle.tables.specs.Answers.{isDone, unless, inOrder}
 use Rattle.tables.specs.Words.{notIdentifier, notValue, rowWords, rowAt, rowCount}
-use Rattle.tables.specs.Tables.{root, isParent, isAbove, outOfRange, notAbove, noParent, rowFault, rowLimit, tableLength, tableChecks}
+use Rattle.tables.specs.Tables.{root, isParent, isDeeper, isAbove, outOfRange, notAbove, noParent, wrongDepth, rowFault, rowLimit, tableLength, tableChecks}
 use Rattle.tables.specs.Devices.{fromDevice}
 use Rattle.tables.specs.declared.Answer.{Answer}
 use Rattle.tables.specs.declared.Row.{Row}
@@ -84,6 +85,10 @@ module _ (t : List ℕ) where
     pub no-11 : (i : ℕ) → i < rowCount t → noParent t i ≡ false
     unfolding rowFault
     no-11 = faultless 11 (listed orderChecks 11 refl)
+
+    pub no-26 : (i : ℕ) → i < rowCount t → wrongDepth t i ≡ false
+    unfolding rowFault
+    no-26 = faultless 26 (listed orderChecks 26 refl)
 
     -- ---- ranges
     module _ (i : ℕ) (h : i < rowCount t) where
@@ -172,19 +177,49 @@ module _ (t : List ℕ) where
         found true false e f = absurd (true≢false e)
         found false false e f = sym f
 
+    -- a row with a parent is no root: no row has at 0
+    pub parent-no-root : (p i : ℕ) → p < rowCount t → isParent (rowAt t i) (rowAt t p) ≡ true → root (rowAt t i) ≡ false
+    parent-no-root p i hp e = either (root (rowAt t i))
+        (λ s. absurd (omega (arith, at-range p hp .0, parent-at (rowAt t i) (rowAt t p) e, eqb-true (rowAt t i .up) 0 s)))
+        (λ s. s)
+
+    -- it has one parent
+    pub one-parent : (p q i : ℕ) → p < rowCount t → q < rowCount t → isParent (rowAt t i) (rowAt t p) ≡ true → isParent (rowAt t i) (rowAt t q) ≡ true → p ≡ q
+    one-parent p q i hp hq e f = same-place p q hp hq
+        (parent-device (rowAt t i) (rowAt t p) e ∙ sym (parent-device (rowAt t i) (rowAt t q) f))
+        (parent-at (rowAt t i) (rowAt t p) e ∙ sym (parent-at (rowAt t i) (rowAt t q) f))
+
     -- a row stands behind its parent
     pub behind : (p i : ℕ) → p < rowCount t → i < rowCount t → isParent (rowAt t i) (rowAt t p) ≡ true → p < i
     behind p i hp hi e =
-        let a : atAt p ≡ rowAt t i .up = parent-at (rowAt t i) (rowAt t p) e in
-        let f : root (rowAt t i) ≡ false = either (root (rowAt t i))
-        (λ s. absurd (omega (arith, at-range p hp .0, eqb-true (rowAt t i .up) 0 s)))
-        (λ s. s) in
-        let q = has-parent i hi f in
-        let hm : q .0 < rowCount t = omega (arith, q .1) in
-        let g : q .0 ≡ p = same-place (q .0) p hm hp
-        (parent-device (rowAt t i) (rowAt t (q .0)) (q .2) ∙ sym (parent-device (rowAt t i) (rowAt t p) e))
-        (parent-at (rowAt t i) (rowAt t (q .0)) (q .2) ∙ sym a) in
+        let q = has-parent i hi (parent-no-root p i hp e) in
+        let g : q .0 ≡ p = one-parent (q .0) p i (omega (arith, q .1)) hp (q .2) e in
         omega (arith, q .1)
+
+    -- ---- depths: 0 at a root, one more than the parent's elsewhere
+    pub root-depth : (i : ℕ) → i < rowCount t → root (rowAt t i) ≡ true → rowAt t i .deep ≡ 0
+    root-depth i h e = eqb-true (rowAt t i .deep) 0 (not-false _ (rw e at (no-26 i h)))
+
+    pub child-depth : (p i : ℕ) → p < rowCount t → i < rowCount t → isParent (rowAt t i) (rowAt t p) ≡ true → rowAt t i .deep ≡ rowAt t p .deep + 1
+    child-depth p i hp hi e =
+        let fits : ℕ → Bool = λ j. isParent (rowAt t i) (rowAt t j) && isDeeper (rowAt t i) (rowAt t j) in
+        let s : some fits i ≡ true = not-false _ (rw (parent-no-root p i hp e) at (no-26 i hi)) in
+        let m : first fits i < i = ltb-true _ _ s in
+        let f = at-first fits i m in
+        let g : first fits i ≡ p = one-parent (first fits i) p i (omega arith) hp (and-left (isParent (rowAt t i) (rowAt t (first fits i))) _ f) e in
+        eqb-true _ _ (and-right (isParent (rowAt t i) (rowAt t (first fits i))) _ f) ∙ ap (λ (j : ℕ). rowAt t j .deep + 1) g
+
+    -- fewer rows stand above a row than before it
+    depth-below : (n i : ℕ) → i < n → i < rowCount t → rowAt t i .deep ≤ i
+    depth-below zero i l h = absurd (omega arith)
+    depth-below (suc n) i l h = either (root (rowAt t i))
+        (λ e. omega (arith, root-depth i h e))
+        (λ e. let w = has-parent i h e in
+        let hp : w .0 < rowCount t = omega (arith, w .1) in
+        omega (arith, w .1, child-depth (w .0) i hp h (w .2), depth-below n (w .0) (omega (arith, w .1)) hp))
+
+    pub depth-le : (i : ℕ) → i < rowCount t → rowAt t i .deep ≤ i
+    depth-le i h = depth-below (suc i) i (omega arith) h
 
     -- ---- the rows of device d are those from fromDevice d up to fromDevice (d + 1)
     module _ (d i : ℕ) (h : i < rowCount t) where

@@ -3,7 +3,7 @@
 use Prim.Native.Nat.{ℕ, zero, suc, _+_, _-_, _≤_, _<_}
 use mathlib.Core.Path.{_≡_, sym, ap, subst, _∙_}
 use mathlib.Core.Logic.{_⊎_, inl, inr, ⊎-elim}
-use mathlib.Core.Bool.{Bool, true, false, _&&_, _||_}
+use mathlib.Core.Bool.{Bool, true, false, not, _&&_, _||_}
 use mathlib.Core.List.{List, [], _∷_, _++_, List·Memᴰ·head, List·Memᴰ·tail, Memᴰ·append-right}
 use native.Mathlib.Nat.{eq-or-lt-of-le}
 use native.Mathlib.Omega.{arith}
@@ -14,9 +14,9 @@ use Rattle.base.proofs.Bools.{either, and-left, and-right, and-both, or-left, o
 use Rattle.base.proofs.Lists.{select-in, select-out}
 use Rattle.base.proofs.Search.{some-at}
 use Rattle.tables.specs.Words.{notIdentifier, notValue, rowAt, rowCount, rowsFrom, rows}
-use Rattle.tables.specs.Tables.{root, isParent, isAbove, outOfRange, notAbove, noParent, rowFault, tableLength}
+use Rattle.tables.specs.Tables.{root, isParent, isDeeper, isAbove, outOfRange, notAbove, noParent, wrongDepth, rowFault, tableLength}
 use Rattle.tables.specs.declared.Row.{Row}
-use Rattle.tables.proofs.Ordered.{orderChecks, orderedTable, order, no-9, has-parent, rises, strictly, parent-at, parent-device}
+use Rattle.tables.proofs.Ordered.{orderChecks, orderedTable, order, no-9, has-parent, root-depth, child-depth, rises, strictly, parent-at, parent-device}
 use Rattle.tables.proofs.RowLists.{from-in, from-out, row-in, row-out}
 
 -- ---- order
@@ -75,11 +75,13 @@ rising-select keep (more-rise {x = x} {xs = xs} l w) = go (keep x) (rising-selec
     go true k = more-rise (λ y m. l y (select-out keep xs m .0)) k
     go false k = k
 
--- ---- what checks 9 to 11 say
+-- ---- what checks 9 to 11 and 26 say
 pub record Ordered (T : List Row) : Type 0 where
   pub ranged : (r : Row) → r ∈ T → outOfRange r ≡ false
   pub rise : Rising T
   pub parents : (r : Row) → r ∈ T → root r ≡ false → (p : Row) × (p ∈ T) × (isParent r p ≡ true) × Above p r
+  pub top : (r : Row) → r ∈ T → root r ≡ true → r .deep ≡ 0
+  pub deeper : (r p : Row) → r ∈ T → p ∈ T → isParent r p ≡ true → r .deep ≡ p .deep + 1
 
 pub at-low : (r : Row) → outOfRange r ≡ false → 1 ≤ r .at
 at-low r e =
@@ -118,6 +120,8 @@ module _ {T : List Row} (ok : Ordered T) where
         let i = select-out keep T m in
         let w = ok .parents r (i .0) e in
         (w .0, select-in keep (w .1) (closed r (w .0) (i .0) (w .1) (i .1) (w .2)), w .2, w .3);
+    top = λ r m. ok .top r (select-out keep T m .0);
+    deeper = λ r p m n. ok .deeper r p (select-out keep T m .0) (select-out keep T n .0);
   }
 
 -- ---- where rows rise by their numbers, a row below another one stands before it
@@ -153,8 +157,20 @@ module _ (t : List ℕ) (ok : orderedTable t ≡ true) where
     ranged = λ r m. let i = row-out t m in subst (λ (z : Row). outOfRange z ≡ false) (sym (i .2)) (no-9 t ok (i .0) (i .1));
     rise = rising-from t 0 (rowCount t) (λ j k a b c. rows-above j k b (omega arith));
     parents = λ r m e. found r (row-out t m) e;
+    top = λ r m e. at-root r (row-out t m) e;
+    deeper = λ r p m n e. below r p (row-out t m) (row-out t n) e;
   }
     where
+      at-root : (r : Row) → (j : ℕ) × (j < rowCount t) × (r ≡ rowAt t j) → root r ≡ true → r .deep ≡ 0
+      at-root r i e = ap (λ (z : Row). z .deep) (i .2) ∙ root-depth t ok (i .0) (i .1) (subst (λ (z : Row). root z ≡ true) (i .2) e)
+
+      below : (r p : Row) → (j : ℕ) × (j < rowCount t) × (r ≡ rowAt t j) → (j : ℕ) × (j < rowCount t) × (p ≡ rowAt t j) → isParent r p ≡ true → r .deep ≡ p .deep + 1
+      below r p i j e =
+          ap (λ (z : Row). z .deep) (i .2)
+          ∙ child-depth t ok (j .0) (i .0) (j .1) (i .1)
+          (subst (λ (z : Row). isParent (rowAt t (i .0)) z ≡ true) (j .2) (subst (λ (z : Row). isParent z p ≡ true) (i .2) e))
+          ∙ ap (λ (z : Row). z .deep + 1) (sym (j .2))
+
       found : (r : Row) → (j : ℕ) × (j < rowCount t) × (r ≡ rowAt t j) → root r ≡ false → (p : Row) × (p ∈ rows t) × (isParent r p ≡ true) × Above p r
       found r i e =
           let w = has-parent t ok (i .0) (i .1) (subst (λ (z : Row). root z ≡ false) (i .2) e) in
@@ -186,11 +202,22 @@ module _ (t : List ℕ) (short : tableLength t ≡ true) (ok : Ordered (rows t))
       let l : j .0 < i = before t above-at (j .0) i (j .1) (subst (λ (z : Row). Above z (rowAt t i)) (j .2) (w .3)) in
       rw (e, some-at (λ k. isParent (rowAt t i) (rowAt t k)) i (j .0) l (subst (λ (z : Row). isParent (rowAt t i) z ≡ true) (j .2) (w .2))))
 
+  deep-right : (i : ℕ) → i < rowCount t → wrongDepth t i ≡ false
+  deep-right i h = either (root (rowAt t i))
+      (λ e. rw (e, eq-eqb (rowAt t i .deep) 0 (ok .top (rowAt t i) (row-in t i h) e)))
+      (λ e. let w = ok .parents (rowAt t i) (row-in t i h) e in let j = row-out t (w .1) in
+      let l : j .0 < i = before t above-at (j .0) i (j .1) (subst (λ (z : Row). Above z (rowAt t i)) (j .2) (w .3)) in
+      let c : isParent (rowAt t i) (rowAt t (j .0)) ≡ true = subst (λ (z : Row). isParent (rowAt t i) z ≡ true) (j .2) (w .2) in
+      let d : isDeeper (rowAt t i) (rowAt t (j .0)) ≡ true
+      = eq-eqb _ _ (ok .deeper (rowAt t i) (rowAt t (j .0)) (row-in t i h) (row-in t (j .0) (j .1)) c) in
+      rw (e, some-at (λ k. isParent (rowAt t i) (rowAt t k) && isDeeper (rowAt t i) (rowAt t k)) i (j .0) l (and-both _ _ c d)))
+
   pub rows-faultless : (k : ℕ) → k ∈ orderChecks → (i : ℕ) → i < rowCount t → rowFault t k i ≡ false
   unfolding rowFault
   rows-faultless k (List·Memᴰ·head e) i h = rw e (ok .ranged (rowAt t i) (row-in t i h))
   rows-faultless k (List·Memᴰ·tail (List·Memᴰ·head e)) i h = rw e (ordered i h)
   rows-faultless k (List·Memᴰ·tail (List·Memᴰ·tail (List·Memᴰ·head e))) i h = rw e (parented i h)
+  rows-faultless k (List·Memᴰ·tail (List·Memᴰ·tail (List·Memᴰ·tail (List·Memᴰ·head e)))) i h = rw e (deep-right i h)
 
   pub rows-order : orderedTable t ≡ true
   rows-order = order t short rows-faultless

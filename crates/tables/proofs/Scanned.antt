@@ -7,14 +7,14 @@ use native.Mathlib.Decide.{decLt}
 use native.Mathlib.Omega.{arith}
 use lib.ListN.{length}
 use lib.Dec.{eqb}
-use borrow.Author.Tests.{eqb-true, ltb-true, ne-eqb}
+use borrow.Author.Tests.{eqb-true, ltb-true}
 use Rattle.base.specs.Search.{first, some}
 use Rattle.base.proofs.Bools.{either, and-left, and-right, and-both, or-first, or-second}
 use Rattle.base.proofs.Search.{Passed, none, at-first, none-at, some-at, some-none}
 use Rattle.tables.specs.Words.{rowWords, rowAt}
 use Rattle.tables.specs.Tables.{root, isTwin}
 use Rattle.tables.specs.declared.Row.{Row}
-use Rattle.tables.specs.Chains.{matchOf, isLike}
+use Rattle.tables.specs.Links.{isLike}
 use Rattle.tables.proofs.Words.{row-left, row-past}
 
 pub some-zero : (p : ℕ → Bool) → false ≡ some p 0
@@ -64,19 +64,19 @@ some-right p q m n h f s = either (some q (n - m))
     ])))
 
 -- ---- the rows of s, then those of t
-module _ (k : ℕ) (r : Row) (s t : List ℕ) where
-  pub in-first : (n : ℕ) → rowWords * n ≤ length s → some (λ j. matchOf k r (rowAt s j)) n ≡ some (λ j. matchOf k r (rowAt (s ++ t) j)) n
-  in-first n h = some-same (λ j. matchOf k r (rowAt s j)) (λ j. matchOf k r (rowAt (s ++ t) j)) n
-      (λ j l. ap (matchOf k r) (sym (row-left s t j (omega arith))))
+module _ (r : Row) (s t : List ℕ) where
+  pub in-first : (n : ℕ) → rowWords * n ≤ length s → some (λ j. isTwin r (rowAt s j)) n ≡ some (λ j. isTwin r (rowAt (s ++ t) j)) n
+  in-first n h = some-same (λ j. isTwin r (rowAt s j)) (λ j. isTwin r (rowAt (s ++ t) j)) n
+      (λ j l. ap (isTwin r) (sym (row-left s t j (omega arith))))
 
   module _ (n m : ℕ) (m-is : m ≡ length s / rowWords) (whole : length s % rowWords ≡ 0) (more : m ≤ n) where
-    pub found-first : some (λ j. matchOf k r (rowAt s j)) m ≡ true → true ≡ some (λ j. matchOf k r (rowAt (s ++ t) j)) n
-    found-first e = some-left (λ j. matchOf k r (rowAt (s ++ t) j)) m n more (sym (in-first m (omega arith)) ∙ e)
+    pub found-first : some (λ j. isTwin r (rowAt s j)) m ≡ true → true ≡ some (λ j. isTwin r (rowAt (s ++ t) j)) n
+    found-first e = some-left (λ j. isTwin r (rowAt (s ++ t) j)) m n more (sym (in-first m (omega arith)) ∙ e)
 
-    pub in-second : some (λ j. matchOf k r (rowAt s j)) m ≡ false → some (λ j. matchOf k r (rowAt t j)) (n - m) ≡ some (λ j. matchOf k r (rowAt (s ++ t) j)) n
-    in-second e = some-right (λ j. matchOf k r (rowAt (s ++ t) j)) (λ j. matchOf k r (rowAt t j)) m n more (sym (in-first m (omega arith)) ∙ e)
+    pub in-second : some (λ j. isTwin r (rowAt s j)) m ≡ false → some (λ j. isTwin r (rowAt t j)) (n - m) ≡ some (λ j. isTwin r (rowAt (s ++ t) j)) n
+    in-second e = some-right (λ j. isTwin r (rowAt (s ++ t) j)) (λ j. isTwin r (rowAt t j)) m n more (sym (in-first m (omega arith)) ∙ e)
         (λ j l. let q : (m + j) - length s / rowWords ≡ j = omega arith in
-        ap (matchOf k r) (sym (row-past s t (m + j) whole (omega arith) ∙ ap (rowAt t) q)))
+        ap (isTwin r) (sym (row-past s t (m + j) whole (omega arith) ∙ ap (rowAt t) q)))
 
 -- ---- tests that rule a row out
 pub not-twin : (r b : Row) → (b .up ≡ r .up → ⊥) → false ≡ isTwin r b
@@ -98,8 +98,7 @@ twin-like r b e =
     let v : Bool = eqb (b .value) (r .value) in
     and-both n v (and-right (a && o) n (and-left ((a && o) && n) v e)) (and-right ((a && o) && n) v e)
 
-pub none-like : (k : ℕ) (r : Row) (t : List ℕ) (n : ℕ) → (k ≡ 11 → ⊥) → some (λ j. isLike r (rowAt t j)) n ≡ false → false ≡ some (λ j. matchOf k r (rowAt t j)) n
-unfolding matchOf
-none-like k r t n h e = sym (some-none (λ j. matchOf k r (rowAt t j)) n (λ j l. rw (ne-eqb k 11 h) (either (isTwin r (rowAt t j))
+pub none-like : (r : Row) (t : List ℕ) (n : ℕ) → some (λ j. isLike r (rowAt t j)) n ≡ false → false ≡ some (λ j. isTwin r (rowAt t j)) n
+none-like r t n e = sym (some-none (λ j. isTwin r (rowAt t j)) n (λ j l. either (isTwin r (rowAt t j))
     (λ s. absurd (true≢false (sym (twin-like r (rowAt t j) s) ∙ none-at (λ i. isLike r (rowAt t i)) n j e l)))
-    (λ s. s))))
+    (λ s. s)))

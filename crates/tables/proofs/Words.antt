@@ -21,8 +21,9 @@ row-left s t i h = λ j. record {
   device = word-left rowWords s t i 0 (omega arith) j;
   at = word-left rowWords s t i 1 (omega arith) j;
   up = word-left rowWords s t i 2 (omega arith) j;
-  name = word-left rowWords s t i 3 (omega arith) j;
-  value = word-left rowWords s t i 4 (omega arith) j;
+  deep = word-left rowWords s t i 3 (omega arith) j;
+  name = word-left rowWords s t i 4 (omega arith) j;
+  value = word-left rowWords s t i 5 (omega arith) j;
 }
 
 pub row-right : (s t : List ℕ) (n i : ℕ) → length s ≡ rowWords * n → rowAt (s ++ t) (n + i) ≡ rowAt t i
@@ -30,8 +31,9 @@ row-right s t n i h = λ j. record {
   device = word-right rowWords s t n i 0 h j;
   at = word-right rowWords s t n i 1 h j;
   up = word-right rowWords s t n i 2 h j;
-  name = word-right rowWords s t n i 3 h j;
-  value = word-right rowWords s t n i 4 h j;
+  deep = word-right rowWords s t n i 3 h j;
+  name = word-right rowWords s t n i 4 h j;
+  value = word-right rowWords s t n i 5 h j;
 }
 
 -- row i of the joined table, where the first one has fewer rows

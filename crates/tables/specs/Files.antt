@@ -18,9 +18,11 @@ use Rattle.tables.specs.declared.reading.Scan.{Scan}
 abbrev pub ruleNames : List ℕ
 ruleNames = 107 ∷ 105 ∷ 110 ∷ 100 ∷ 32 ∷ 97 ∷ 32 ∷ 98 ∷ 32 ∷ 99 ∷ 10 ∷ []
 
--- device at up name value
+-- device at up deep name value
 abbrev pub poolNames : List ℕ
-poolNames = 100 ∷ 101 ∷ 118 ∷ 105 ∷ 99 ∷ 101 ∷ 32 ∷ 97 ∷ 116 ∷ 32 ∷ 117 ∷ 112 ∷ 32 ∷ 110 ∷ 97 ∷ 109 ∷ 101 ∷ 32 ∷ 118 ∷ 97 ∷ 108 ∷ 117 ∷ 101 ∷ 10 ∷ []
+poolNames =
+    100 ∷ 101 ∷ 118 ∷ 105 ∷ 99 ∷ 101 ∷ 32 ∷ 97 ∷ 116 ∷ 32 ∷ 117 ∷ 112 ∷ 32
+    ∷ 100 ∷ 101 ∷ 101 ∷ 112 ∷ 32 ∷ 110 ∷ 97 ∷ 109 ∷ 101 ∷ 32 ∷ 118 ∷ 97 ∷ 108 ∷ 117 ∷ 101 ∷ 10 ∷ []
 
 -- verdict rows branch full marks
 abbrev pub countNames : List ℕ

@@ -2,7 +2,7 @@ pub mod Answers
 pub mod Words
 pub mod Rules
 pub mod Tables
-pub mod Chains
+pub mod Links
 pub mod Joining
 pub mod Devices
 pub mod Spans

@@ -1,5 +1,5 @@
--- 01, the refusals of a table: 8 to 12. Assumes nothing.
-use Prim.Native.Nat.{ℕ, _-_}
+-- 01, the refusals of a table: 8 to 12, with 26 between 11 and 12. Assumes nothing.
+use Prim.Native.Nat.{ℕ, _+_, _-_}
 use mathlib.Core.Bool.{Bool, cond, not, _&&_, _||_}
 use mathlib.Core.List.{List, [], _∷_}
 use lib.Dec.{ltb, leb, eqb}
@@ -16,6 +16,10 @@ root r = eqb (r .up) 0
 -- row p is the parent of row r
 abbrev pub isParent : Row → Row → Bool
 isParent r p = eqb (p .device) (r .device) && eqb (p .at) (r .up)
+
+-- row r is one deeper than row p
+abbrev pub isDeeper : Row → Row → Bool
+isDeeper r p = eqb (r .deep) (p .deep + 1)
 
 -- rows rise by device, then by at: row r stands above row b
 abbrev pub isAbove : Row → Row → Bool
@@ -38,6 +42,12 @@ notAbove t i = ltb 0 i && not (isAbove (rowAt t i) (rowAt t (i - 1)))
 abbrev pub noParent : List ℕ → ℕ → Bool
 noParent t i = not (root (rowAt t i)) && not (some (λ j. isParent (rowAt t i) (rowAt t j)) i)
 
+-- 26: deep isn't 0 at a root, or isn't one more than the parent's elsewhere
+abbrev pub wrongDepth : List ℕ → ℕ → Bool
+wrongDepth t i =
+    not (cond (root (rowAt t i)) (eqb (rowAt t i .deep) 0)
+    (some (λ j. isParent (rowAt t i) (rowAt t j) && isDeeper (rowAt t i) (rowAt t j)) i))
+
 -- 12: an earlier sibling with equal name and value
 abbrev pub hasTwin : List ℕ → ℕ → Bool
 hasTwin t i = some (λ j. isTwin (rowAt t i) (rowAt t j)) i
@@ -48,7 +58,8 @@ rowFault t k i =
     cond (eqb k 9) (outOfRange (rowAt t i))
     (cond (eqb k 10) (notAbove t i)
     (cond (eqb k 11) (noParent t i)
-    (hasTwin t i)))
+    (cond (eqb k 26) (wrongDepth t i)
+    (hasTwin t i))))
 
 -- a table has 0 to 1,024 rows
 abbrev pub rowLimit : ℕ
@@ -60,7 +71,7 @@ tableLength t = whole rowWords t && leb (rowCount t) rowLimit
 
 -- the checks of rows, in the order in which they are made
 abbrev pub tableChecks : List ℕ
-tableChecks = 9 ∷ 10 ∷ 11 ∷ 12 ∷ []
+tableChecks = 9 ∷ 10 ∷ 11 ∷ 26 ∷ 12 ∷ []
 
 -- the answer of the table checks: the number of rows, or the first refusal
 unfoldable pub checkTable : List ℕ → Answer

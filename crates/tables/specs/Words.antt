@@ -24,18 +24,23 @@ notIdentifier x = ltb x 1 || ltb 65535 x
 abbrev pub notValue : ℕ → Bool
 notValue x = ltb 2147483647 x
 
--- ---- tables: a row is five words, `device at up name value`
+-- ---- tables: a row is six words, `device at up deep name value`
 abbrev pub rowWords : ℕ
-rowWords = 5
+rowWords = 6
 
 abbrev pub rowAt : List ℕ → ℕ → Row
 rowAt t i = record {
   device = word rowWords t i 0;
   at = word rowWords t i 1;
   up = word rowWords t i 2;
-  name = word rowWords t i 3;
-  value = word rowWords t i 4;
+  deep = word rowWords t i 3;
+  name = word rowWords t i 4;
+  value = word rowWords t i 5;
 }
+
+-- the words of a row, in the row's order
+abbrev pub columnsOf : Row → List ℕ
+columnsOf r = r .device ∷ r .at ∷ r .up ∷ r .deep ∷ r .name ∷ r .value ∷ []
 
 -- the number of whole rows
 abbrev pub rowCount : List ℕ → ℕ

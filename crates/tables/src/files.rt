@@ -13,7 +13,7 @@ ghost use Rattle.tables.specs.Files.{readRule, readRuleOut, readPool, re
 // The line of names of a rule file, and of a pool file.
 const RULE_NAMES: [u8; 11] = *b"kind a b c\n";
 
-const POOL_NAMES: [u8; 24] = *b"device at up name value\n";
+const POOL_NAMES: [u8; 29] = *b"device at up deep name value\n";
 
 // The lines of names of the program's text.
 const COUNT_NAMES: [u8; 31] = *b"verdict rows branch full marks\n";

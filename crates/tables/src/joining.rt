@@ -1,10 +1,10 @@
 // Joining: a table put behind another whose last device is smaller.
 use super::Answer;
-use super::chains::first_linked;
 use super::rows::ROW_WORDS;
 use super::rows::row_at;
 use super::tables::ROW_LIMIT;
 use super::tables::check_table;
+use super::twins::first_twin;
 ghost use mathlib.Core.Path.{_≡_};
 ghost use Prim.Native.Nat.{_+_, _≤_};
 ghost use lib.ListN.{length};
@@ -50,7 +50,7 @@ fn join_tables(s: &[u32], t: &[u32], room: usize) -> Answer
             place: 0,
         };
     }
-    let i = first_linked(s, t, n, 12);
+    let i = first_twin(s, t, n);
     if i < n {
         return Answer::Refused {
             number: 12,

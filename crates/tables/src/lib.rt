@@ -1,15 +1,16 @@
 // Rules and tables as lent runs of words: when they are accepted, joining, one device's rows, files.
-mod chains;
 mod columns;
 mod devices;
 mod entries;
 mod files;
 mod joining;
-mod pairwise;
+mod links;
+mod parents;
 mod reading;
 mod rows;
 mod rules;
 mod tables;
+mod twins;
 mod writing;
 
 pub use devices::Span;
@@ -28,6 +29,7 @@ pub use files::write_refusal;
 pub use files::write_rule;
 pub use joining::join;
 pub use rows::AT;
+pub use rows::DEEP;
 pub use rows::DEVICE;
 pub use rows::NAME;
 pub use rows::ROW_WORDS;
@@ -52,6 +54,7 @@ pub struct Row {
     pub device: u32,
     pub at: u32,
     pub up: u32,
+    pub deep: u32,
     pub name: u32,
     pub value: u32,
 }

@@ -5,10 +5,10 @@ ghost use mathlib.Core.List.{_++_};
 ghost use Prim.Native.Nat.{_+_, _*_, _%_, _≤_};
 ghost use lib.ListN.{length};
 ghost use Rattle.tables.specs.Words.{rowWords, rowAt};
-ghost use Rattle.tables.specs.Tables.{outOfRange, isAbove, isParent, isTwin};
+ghost use Rattle.tables.specs.Tables.{outOfRange, isAbove, isParent, isDeeper, isTwin};
 
 // The columns of a row, in the row's order.
-pub const ROW_WORDS: usize = 5;
+pub const ROW_WORDS: usize = 6;
 
 pub const DEVICE: usize = 0;
 
@@ -16,9 +16,11 @@ pub const AT: usize = 1;
 
 pub const UP: usize = 2;
 
-pub const NAME: usize = 3;
+pub const DEEP: usize = 3;
 
-pub const VALUE: usize = 4;
+pub const NAME: usize = 4;
+
+pub const VALUE: usize = 5;
 
 pub(crate) fn row_at(t: &[u32], i: usize) -> Row
     requires { ⌜ rowWords * i + rowWords ≤ length (now t) ⌝ }
@@ -28,6 +30,7 @@ pub(crate) fn row_at(t: &[u32], i: usize) -> Row
         device: t[ROW_WORDS * i + DEVICE],
         at: t[ROW_WORDS * i + AT],
         up: t[ROW_WORDS * i + UP],
+        deep: t[ROW_WORDS * i + DEEP],
         name: t[ROW_WORDS * i + NAME],
         value: t[ROW_WORDS * i + VALUE],
     }
@@ -66,6 +69,19 @@ pub(crate) fn is_parent(r: Row, p: Row) -> bool
     ensures { λ o. ⌜ o ≡ isParent r p ⌝ }
 {
     (p.device == r.device) & (p.at == r.up)
+}
+
+fn wide(x: u32) -> u64
+    ensures { λ r. ⌜ r ≡ x ⌝ }
+{
+    x as u64
+}
+
+// In 64 bits: a depth of 4,294,967,295 plus one is no depth.
+pub(crate) fn is_deeper(r: Row, p: Row) -> bool
+    ensures { λ o. ⌜ o ≡ isDeeper r p ⌝ }
+{
+    wide(r.deep) == wide(p.deep) + 1
 }
 
 pub(crate) fn is_twin(r: Row, b: Row) -> bool

@@ -1,6 +1,6 @@
 //! The rows of one device within the table.
 
-use super::table::{accepted_table, ROW_WORDS};
+use super::table::{accepted_table, rows_of, ROW_WORDS};
 use crate::answer::Span;
 
 pub fn device_rows(table: &[u32], device: u32) -> Span {
@@ -18,9 +18,8 @@ pub fn device_rows(table: &[u32], device: u32) -> Span {
 pub fn devices_of(table: &[u32]) -> Vec<&[u32]> {
     let mut devices = vec![];
     let mut rest = table;
-    while let Some(&device) = rest.first() {
-        let rows = rest.chunks(ROW_WORDS).take_while(|row| row[0] == device).count();
-        let (own, others) = rest.split_at(rows * ROW_WORDS);
+    for rows in rows_of(table).chunk_by(|row, next| row.device == next.device) {
+        let (own, others) = rest.split_at(rows.len() * ROW_WORDS);
         devices.push(own);
         rest = others;
     }

@@ -12,7 +12,7 @@ pub struct Format {
 }
 
 pub const RULE: Format = Format { first_line: "kind a b c\n", columns: ENTRY_WORDS };
-pub const POOL: Format = Format { first_line: "device at up name value\n", columns: ROW_WORDS };
+pub const POOL: Format = Format { first_line: "device at up deep name value\n", columns: ROW_WORDS };
 
 pub fn read_rule(file: &[u8], rule: &mut [u32]) -> Answer {
     read(RULE.words_of(file), rule)

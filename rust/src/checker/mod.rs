@@ -33,7 +33,7 @@ pub use reach::fewest_around;
 pub use report::{report, report_text, MOST_FILE_BYTES};
 pub use rule::{accepted_rule, check_rule, ENTRY_WORDS, MOST_ENTRIES, MOST_NESTED};
 pub use spare::spare_rows;
-pub use table::{accepted_table, check_table, Row, MOST_ROWS, ROW_WORDS};
+pub use table::{accepted_table, check_table, rows_of, words_of, Row, MOST_ROWS, ROW_WORDS};
 pub use verdict::verdict;
 
 /// The largest device, at or name.

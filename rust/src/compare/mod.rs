@@ -7,14 +7,11 @@ mod tally;
 pub use lent::Lent;
 pub use tally::Tally;
 
-use crate::answer::Answer;
+use crate::answer::{is_refusal, Answer};
 use crate::ffi;
 use crate::random::Random;
 
 const DEFAULT_SEED: u64 = 20_260_101;
-
-/// A refusal's number that is retired and stays unused.
-const RETIRED: u32 = 15;
 
 /// One case, made from its own seed: run with that seed in `GABZERIL_SEED`, it is the first case.
 pub struct Case {
@@ -58,12 +55,12 @@ impl Case {
         self.tally.note(what);
     }
 
-    /// Counts one comparison; fails if its outcome was not the expected one. The retired number may not be
-    /// expected, so a call that answers it fails in any case.
+    /// Counts one comparison; fails if its outcome was not the expected one. A number that is not used may
+    /// not be expected, so a call that answers it fails in any case.
     pub fn compared(&mut self, same: bool, expected: Answer, describe: impl FnOnce() -> String) {
         self.tally.count(expected);
-        let retired = expected.number() == RETIRED;
-        assert!(same && !retired, "GABZERIL_SEED={}: {}", self.seed, describe());
+        let used = expected.number() == 0 || is_refusal(expected.number());
+        assert!(same && used, "GABZERIL_SEED={}: {}", self.seed, describe());
     }
 }
 
@@ -80,10 +77,20 @@ impl Drop for Case {
 mod tests {
     use super::*;
 
+    fn both_sides_answer(number: u32) {
+        let answer = Answer::refused(number, 0);
+        Case::new("unused", 7).compared(true, answer, || "answered by both sides".into());
+    }
+
     #[test]
     #[should_panic(expected = "GABZERIL_SEED=7: answered by both sides")]
     fn the_retired_number_fails() {
-        let answer = Answer::refused(RETIRED, 0);
-        Case::new("retired", 7).compared(true, answer, || "answered by both sides".into());
+        both_sides_answer(15);
+    }
+
+    #[test]
+    #[should_panic(expected = "GABZERIL_SEED=7: answered by both sides")]
+    fn a_number_that_is_not_used_fails() {
+        both_sides_answer(25);
     }
 }

@@ -3,6 +3,7 @@
 use std::collections::HashSet;
 
 use super::vocabulary::Vocabulary;
+use crate::checker::Row;
 use crate::random::Random;
 
 /// An accepted table. Each device has a chain of `length` rows, each under the one before, and up to `beside`
@@ -21,7 +22,8 @@ pub fn chains(random: &mut Random, vocabulary: &Vocabulary, length: usize, besid
                 value = random.below(length + beside + 4) as u32;
             }
             ats[depth].push(at);
-            table.extend([device, at, up, vocabulary.names[depth], value]);
+            let (deep, name) = (depth as u32, vocabulary.names[depth]);
+            table.extend(Row { device, at, up, deep, name, value }.words());
         }
     }
     table

@@ -41,16 +41,18 @@ const NUMBERS: [&str; 16] = [
     "99999999999999999999999",
 ];
 const PIECES: [&str; 9] = [" ", "  ", "\r", "\r\n", "\n", "\n\n", "\t", "\0", "0"];
-const FIRST_LINES: [&str; 9] = [
+const FIRST_LINES: [&str; 11] = [
     "kind a b c\n",
+    "device at up deep name value\n",
     "device at up name value\n",
+    "device at up name deep value\n",
     "kind a b c \n",
     "kind a b\n",
     "Kind a b c\n",
     "\n",
     " kind a b c\n",
     "kind  a b c\n",
-    "device at up name value\r\n",
+    "device at up deep name value\r\n",
 ];
 
 fn damage(random: &mut Random, file: &mut Vec<u8>) {

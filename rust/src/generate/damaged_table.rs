@@ -1,10 +1,12 @@
-//! Tables with faults under 8 to 12.
+//! Tables with faults under 8 to 12 and 26.
 
+use super::depths::{change_row, depth_behind, hang_under, make_wrong, row_at};
 use super::faults::{change_a_word, with_faults};
-use crate::checker::{MOST_ROWS, ROW_WORDS};
+use crate::checker::{Row, MOST_ROWS, ROW_WORDS};
 use crate::random::Random;
 
-pub const TABLE_FAULTS: [u32; 5] = [8, 9, 10, 11, 12];
+/// In the order of the checks.
+pub const TABLE_FAULTS: [u32; 6] = [8, 9, 10, 11, 26, 12];
 
 /// A table with one fault or several.
 pub fn damaged_table(random: &mut Random, table: &[u32]) -> Vec<u32> {
@@ -18,7 +20,10 @@ pub fn any_table(random: &mut Random) -> Vec<u32> {
         let device = if random.chance(95) { 1 + row / 3 } else { random.below(4) as u32 };
         let at = if random.chance(95) { 1 + row } else { random.below(9) as u32 };
         let up = random.below(row as usize + 2) as u32 * random.below(2) as u32;
-        table.extend([device, at, up, random.between(1, 2) as u32, random.below(4) as u32]);
+        let right = depth_behind(&table, device, up).filter(|_| random.chance(95));
+        let deep = right.unwrap_or_else(|| random.below(4) as u32);
+        let (name, value) = (random.between(1, 2) as u32, random.below(4) as u32);
+        table.extend(Row { device, at, up, deep, name, value }.words());
     }
     if random.chance(20) {
         change_a_word(random, &mut table);
@@ -37,16 +42,13 @@ pub fn damage_table(random: &mut Random, table: &mut Vec<u32>, number: u32) {
         _ if rows == 0 => {}
         9 => {
             let place = random.below(rows);
-            out_of_range(random, row_of(table, place));
+            change_row(table, place, |row| out_of_range(random, row));
         }
         10 => wrong_order(random, table, rows),
         11 => wrong_parent(random, table, rows),
+        26 => wrong_depths(random, table, rows),
         _ => equal_sibling(random, table, rows),
     }
-}
-
-fn row_of(table: &mut [u32], place: usize) -> &mut [u32] {
-    &mut table[place * ROW_WORDS..][..ROW_WORDS]
 }
 
 /// Leftover or missing words, or too many rows.
@@ -57,7 +59,7 @@ fn wrong_length(random: &mut Random, table: &mut Vec<u32>) {
         3 => MOST_ROWS + 1,
         _ => MOST_ROWS + random.between(1, 300),
     };
-    let leftover = if rows > MOST_ROWS { random.below(5) } else { random.between(1, 4) };
+    let leftover = if rows > MOST_ROWS { random.below(ROW_WORDS) } else { random.between(1, ROW_WORDS - 1) };
     let words = rows * ROW_WORDS + leftover;
     // What is added goes on as the table ends, so that no other check finds it first.
     let last = table.get(table.len().saturating_sub(ROW_WORDS)..).unwrap_or(&[]).to_vec();
@@ -68,13 +70,14 @@ fn wrong_length(random: &mut Random, table: &mut Vec<u32>) {
 }
 
 /// Check 9; at times several words of the row.
-fn out_of_range(random: &mut Random, row: &mut [u32]) {
-    let above = [65_536, 65_537, 2_147_483_647, 2_147_483_648, u32::MAX];
+fn out_of_range(random: &mut Random, row: &mut Row) {
+    let out = [0, 0, 65_536, 65_537, 2_147_483_647, 2_147_483_648, u32::MAX];
     loop {
-        match random.pick(&[0, 1, 3, 4]) {
-            4 => row[4] = random.pick(&[2_147_483_648, 2_147_483_649, u32::MAX]),
-            word if random.chance(40) => row[word] = 0,
-            word => row[word] = random.pick(&above),
+        match random.below(4) {
+            0 => row.device = random.pick(&out),
+            1 => row.at = random.pick(&out),
+            2 => row.name = random.pick(&out),
+            _ => row.value = random.pick(&[2_147_483_648, 2_147_483_649, u32::MAX]),
         }
         if random.chance(80) {
             return;
@@ -85,45 +88,53 @@ fn out_of_range(random: &mut Random, row: &mut [u32]) {
 /// Check 10: two rows exchanged, or an identity repeated, or an at or device that falls.
 fn wrong_order(random: &mut Random, table: &mut [u32], rows: usize) {
     let (first, second) = (random.below(rows), random.below(rows));
-    let other = row_of(table, first).to_vec();
-    let row = row_of(table, second);
+    let (other, row) = (row_at(table, first), row_at(table, second));
     match random.below(4) {
         0 => {
-            let kept = row.to_vec();
-            row.copy_from_slice(&other);
-            row_of(table, first).copy_from_slice(&kept);
+            change_row(table, first, |words| *words = row);
+            change_row(table, second, |words| *words = other);
         }
-        1 => row[..2].copy_from_slice(&other[..2]),
-        2 => row[1] = other[1],
-        _ => row[0] = other[0],
+        1 => change_row(table, second, |row| (row.device, row.at) = (other.device, other.at)),
+        2 => change_row(table, second, |row| row.at = other.at),
+        _ => change_row(table, second, |row| row.device = other.device),
     }
 }
 
 /// Check 11: its own at, one of another row, one that nothing has.
 fn wrong_parent(random: &mut Random, table: &mut [u32], rows: usize) {
     let place = random.below(rows);
-    let other = random.below(rows);
-    let later_at = row_of(table, other)[1];
-    let row = row_of(table, place);
-    row[2] = match random.below(6) {
-        0 => row[1],
-        1 => row[1].wrapping_add(1),
-        2 => row[1].wrapping_sub(1),
-        3 => later_at,
+    let (own, other) = (row_at(table, place), row_at(table, random.below(rows)));
+    let up = match random.below(6) {
+        0 => own.at,
+        1 => own.at.wrapping_add(1),
+        2 => own.at.wrapping_sub(1),
+        3 => other.at,
         _ => random.pick(&[65_535, 65_536, 2_147_483_648, u32::MAX]),
     };
+    hang_under(table, place, up);
+}
+
+/// Check 26, at one row or several.
+fn wrong_depths(random: &mut Random, table: &mut [u32], rows: usize) {
+    loop {
+        let place = random.below(rows);
+        make_wrong(random, table, place);
+        if random.chance(75) {
+            return;
+        }
+    }
 }
 
 /// Check 12: the name and value of another row, and often its parent.
 fn equal_sibling(random: &mut Random, table: &mut [u32], rows: usize) {
     let (first, second) = (random.below(rows), random.below(rows));
-    let other = row_of(table, first).to_vec();
-    let row = row_of(table, second);
-    row[3..].copy_from_slice(&other[3..]);
+    let other = row_at(table, first);
+    change_row(table, second, |row| (row.name, row.value) = (other.name, other.value));
     if random.chance(70) {
-        row[2] = if random.chance(50) { 0 } else { other[2] };
+        let up = if random.chance(50) { 0 } else { other.up };
+        hang_under(table, second, up);
     }
-    if row[2] == 0 && random.chance(70) {
-        row_of(table, first)[2] = 0;
+    if row_at(table, second).up == 0 && random.chance(70) {
+        hang_under(table, first, 0);
     }
 }

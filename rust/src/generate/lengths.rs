@@ -25,6 +25,15 @@ pub fn some_lengths_around(random: &mut Random, answer: usize) -> Vec<usize> {
     }
 }
 
+/// Mostly enough for any answer, at times about as long as this one.
+pub fn mostly_enough(random: &mut Random, enough: usize, answer: usize) -> usize {
+    if random.chance(80) {
+        enough
+    } else {
+        one_length_around(random, answer)
+    }
+}
+
 /// The words of the part; none if it is refused.
 pub fn words_sent(rule: &[u32], device: &[u32], mode: u32) -> usize {
     match part(rule, device, mode, &mut vec![0; device.len()]) {

@@ -2,9 +2,11 @@
 
 mod chains;
 mod cost;
+mod damaged_depths;
 mod damaged_file;
 mod damaged_rule;
 mod damaged_table;
+mod depths;
 mod faults;
 mod lengths;
 mod nested;
@@ -16,15 +18,16 @@ mod together;
 mod vocabulary;
 
 pub use cost::{files_cost, reading_cost, verdict_cost};
+pub use damaged_depths::{damaged_depths, DepthTable};
 pub use damaged_file::{damaged_file, file_of_words};
 pub use damaged_rule::{any_rule, damage_rule, damaged_rule, RULE_FAULTS};
 pub use damaged_table::{any_table, damage_table, damaged_table, TABLE_FAULTS};
-pub use lengths::{lengths_around, one_length_around, some_lengths_around, words_sent};
+pub use lengths::{lengths_around, mostly_enough, one_length_around, some_lengths_around, words_sent};
 pub use nested::{nested_rule, NestedRule};
 pub use pools::{pool, pool_of, PoolShape};
 pub use rules::{rule, rule_of, RuleShape};
 pub use together::{
-    damaged_together, nested_rule_and_table, rule_and_devices, rule_and_pool, rule_and_roots,
-    rule_and_siblings, Together,
+    damaged_together, deep_rows, nested_rule_and_table, rule_and_deep_rows, rule_and_devices, rule_and_pool,
+    rule_and_roots, rule_and_siblings, Together,
 };
 pub use vocabulary::{word_of_any_class, Vocabulary, NOT_IN_POOL};

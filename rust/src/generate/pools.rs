@@ -3,7 +3,7 @@
 use std::collections::HashSet;
 
 use super::vocabulary::Vocabulary;
-use crate::checker::{MOST_NAME, MOST_ROWS, MOST_VALUE};
+use crate::checker::{Row, MOST_NAME, MOST_ROWS, MOST_VALUE};
 use crate::random::Random;
 
 #[derive(Clone, Copy, Debug)]
@@ -102,17 +102,19 @@ impl Growth<'_> {
     }
 
     fn device(&mut self, device: u32, rows: usize) {
-        let ats = self.rising(rows);
+        let (ats, mut depths) = (self.rising(rows), vec![]);
         for (row, &at) in ats.iter().enumerate() {
             let root = row == 0 || self.random.chance(self.shape.roots);
-            let up = match root {
-                true => 0,
-                false if self.shape.wide && self.random.chance(90) => ats[0],
-                false if self.random.chance(self.shape.chained) => ats[row - 1],
-                false => ats[self.random.below(row)],
+            let parent = match root {
+                true => None,
+                false if self.shape.wide && self.random.chance(90) => Some(0),
+                false if self.random.chance(self.shape.chained) => Some(row - 1),
+                false => Some(self.random.below(row)),
             };
+            let (up, deep) = parent.map_or((0, 0), |parent| (ats[parent], depths[parent] + 1));
             let (name, value) = self.name_and_value(device, up);
-            self.table.extend([device, at, up, name, value]);
+            depths.push(deep);
+            self.table.extend(Row { device, at, up, deep, name, value }.words());
         }
     }
 

@@ -1,7 +1,9 @@
 //! What the generators promise.
 
 use super::*;
-use crate::checker::{accepted_rule, accepted_table, check_rule, check_table, part, Entry, MOST_NESTED};
+use crate::checker::{
+    accepted_rule, accepted_table, check_rule, check_table, part, rows_of, Entry, MOST_NESTED,
+};
 use crate::random::Random;
 
 #[test]
@@ -59,6 +61,49 @@ fn nested_rules_are_as_they_tell() {
         assert_eq!(rule.too_nested.is_some(), rule.deepest > MOST_NESTED, "seed {seed}: {rule:?}");
         assert_eq!(check_table(&table).number(), 0, "seed {seed}: {table:?}");
     }
+}
+
+/// Their check answers what they tell.
+#[test]
+fn damaged_depths_are_as_they_tell() {
+    for seed in 0..5_000 {
+        let random = &mut Random::new(seed);
+        let rows = random.below(60);
+        let (_, table) = rule_and_deep_rows(random, rows, u64::MAX);
+        assert_eq!(check_table(&table).number(), 0, "seed {seed}: {table:?}");
+        let damaged = damaged_depths(random, &table);
+        assert_eq!(check_table(&damaged.words), damaged.check(), "seed {seed}: {damaged:?}");
+    }
+}
+
+#[test]
+fn depths_are_wrong_in_every_way() {
+    let ways: [fn(Option<u32>, u32) -> bool; 8] = [
+        |parent, deep| parent.is_none() && deep == 1,
+        |parent, deep| parent.is_none() && deep == u32::MAX,
+        |parent, deep| parent.is_some() && deep == 0,
+        |parent, deep| parent.is_some() && deep == u32::MAX,
+        |parent, deep| parent == Some(deep),
+        |parent, deep| parent.is_some_and(|above| deep.checked_sub(above) == Some(2)),
+        // Nothing is one more than the largest word: not 0, nor that word itself.
+        |parent, deep| parent == Some(u32::MAX) && deep == 0,
+        |parent, deep| parent == Some(u32::MAX) && deep == u32::MAX,
+    ];
+    let mut seen = [0; 8];
+    for seed in 0..3_000 {
+        let random = &mut Random::new(seed);
+        let vocabulary = Vocabulary::new(random);
+        let mut table = deep_rows(random, &vocabulary, 2, 12);
+        damage_table(random, &mut table, 26);
+        let rows = rows_of(&table);
+        for row in &rows {
+            let parent = rows.iter().find(|parent| parent.is_parent_of(row)).map(|parent| parent.deep);
+            for (times, way) in seen.iter_mut().zip(ways) {
+                *times += way(parent, row.deep) as u32;
+            }
+        }
+    }
+    assert!(seen.iter().all(|&times| times >= 50), "{seen:?}");
 }
 
 /// A fault put in alone is mostly the one that is found; where there is no place for it, none is.

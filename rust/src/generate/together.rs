@@ -8,7 +8,7 @@ use super::nested::{nested_rule, nested_rule_along, NestedRule};
 use super::pools::{pool_of, PoolShape};
 use super::rules::{rule_of, RuleShape, Sides};
 use super::vocabulary::Vocabulary;
-use crate::checker::{devices_of, MOST_NESTED, ROW_WORDS};
+use crate::checker::{devices_of, rows_of, MOST_NESTED};
 use crate::random::Random;
 
 #[derive(Clone, Copy, Debug)]
@@ -85,7 +85,8 @@ fn device_of_roots(random: &mut Random, vocabulary: &Vocabulary) -> Vec<u32> {
         let (rows, roots) = (random.between(2, 16), random.pick(&[70, 85, 100]));
         let shape = PoolShape { devices: 1, roots, ..PoolShape::with_rows(random, rows) };
         let table = pool_of(random, vocabulary, shape);
-        let names: Vec<u32> = table.chunks(ROW_WORDS).filter(|row| row[2] == 0).map(|row| row[3]).collect();
+        let names: Vec<u32> =
+            rows_of(&table).iter().filter(|row| row.is_root()).map(|row| row.name).collect();
         if (2..=12).contains(&names.len()) && names.iter().any(|&name| name != names[0]) {
             return table;
         }
@@ -136,6 +137,27 @@ fn nested_rule_and_chains(random: &mut Random, cost: u64) -> (NestedRule, Vec<u3
 
 fn takes(rule: &NestedRule, table: &[u32]) -> u64 {
     verdict_cost(&rule.words, table).max(reading_cost(&rule.words, table))
+}
+
+/// An accepted rule and an accepted table of so many rows, most often of one device.
+pub fn rule_and_deep_rows(random: &mut Random, rows: usize, cost: u64) -> (Vec<u32>, Vec<u32>) {
+    loop {
+        let vocabulary = Vocabulary::new(random);
+        let rule_shape = RuleShape::new(random);
+        let rule = rule_of(random, &vocabulary, rule_shape);
+        let devices = random.pick(&[1, 1, 1, 2, 3]);
+        let table = deep_rows(random, &vocabulary, devices, rows);
+        if verdict_cost(&rule, &table).max(reading_cost(&rule, &table)) <= cost {
+            return (rule, table);
+        }
+    }
+}
+
+/// An accepted table with few roots: paths, wide and deep trees.
+pub fn deep_rows(random: &mut Random, vocabulary: &Vocabulary, devices: usize, rows: usize) -> Vec<u32> {
+    let (roots, chained) = (random.pick(&[0, 0, 5, 20]), random.pick(&[0, 60, 95, 100]));
+    let shape = PoolShape { devices, roots, chained, ..PoolShape::with_rows(random, rows) };
+    pool_of(random, vocabulary, shape)
 }
 
 /// An accepted rule, and the tables of devices whose rows together are accepted; some have no rows.

@@ -1,12 +1,12 @@
 //! The few names and values that a rule and a pool share, so that the rule finds rows.
 
-use crate::checker::{MOST_NAME, MOST_NESTED, MOST_VALUE};
+use crate::checker::{MOST_NAME, MOST_NESTED, MOST_ROWS, MOST_VALUE};
 use crate::random::Random;
 
 /// A name that no pool uses.
 pub const NOT_IN_POOL: u32 = 65_000;
 
-const WORD_CLASSES: [u32; 17] = [
+const WORD_CLASSES: [u32; 19] = [
     0,
     1,
     2,
@@ -18,6 +18,8 @@ const WORD_CLASSES: [u32; 17] = [
     10,
     127,
     128,
+    MOST_ROWS as u32 - 1,
+    MOST_ROWS as u32,
     MOST_NAME,
     MOST_NAME + 1,
     MOST_VALUE,

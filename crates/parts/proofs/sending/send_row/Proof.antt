@@ -29,4 +29,7 @@ send-row-spec = tie.close (tie.spec
     (λ c. let s = c .before .before .before .before in simp length-set (omega (arith, s .pre .1, row-words (now (s .args .table)) (s .args .row) (s .args .keep) (c .before .if1 .left))))
     (λ c. search needs)
     (λ c. search needs)
+    (λ c. let s = c .before .before .before .before in simp length-set (omega (arith, s .pre .1, row-words (now (s .args .table)) (s .args .row) (s .args .keep) (c .before .if1 .left))))
+    (λ c. search needs)
+    (λ c. search needs)
     (λ c. let s = c .before .before .before .before in (ap (_+_ (s .args .at)) (sym (row-words (now (s .args .table)) (s .args .row) (s .args .keep) (c .before .if1 .left))), row-written (now (s .args .table)) (s .args .row) (s .args .keep) (c .before .if1 .left) (now (s .args .out)) (s .args .at) _ (c .row-at .ensures))))

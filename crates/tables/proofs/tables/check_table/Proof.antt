@@ -1,31 +1,54 @@
--- `tables::check_table` meets its contract: one line of the refusal table after the other. Assumes nothing.
-use Prim.Native.Nat.{_-_}
+-- `tables::check_table` meets its contract: one check after the other. Assumes nothing.
+use mathlib.Core.Path.{refl, _∙_}
 use native.Mathlib.Omega.{arith}
 use denote.Ref.{now}
-use lib.ListN.{length}
 use borrow.Author.Needs.{needs}
 use borrow.Author.Tests.{not-true, not-false}
-use Rattle.tables.specs.Words.{rowWords, rowCount}
-use Rattle.tables.specs.Tables.{rowFault, tableChecks, checkTable}
+use Rattle.tables.specs.Words.{rowWords}
 use Rattle.tables.proofs.Whole.{no-rest, table-whole, table-few}
-use Rattle.tables.proofs.Faults.{Tested, table-length, table-begin, test-hit, test-more, test-end}
+use Rattle.tables.proofs.Faults.{table-length, stop-9, stop-10, stop-11, stop-26, stop-12, all-passed}
 use Rattle.tables.proofs.tables.check_table.Statement.{statement}
 use Rattle.tables.proofs.tables.check_table.Tie as tie
 
 pub check-table-spec : {M : Type 1} → statement M
 check-table-spec = tie.close (tie.spec
-    (λ table n whole k₀ k. Tested (checkTable table) (rowFault table) (rowCount table) tableChecks k)
-    (λ table n whole k₀ k. length tableChecks - k)
-    (λ c. table-length _ (not-true _ (c .if1 .taken)))
-    (λ c. table-begin _ (not-false _ (c .if1 .left)))
+    (λ c κs. search needs)
+    (λ c. c .refused .ensures ∙ table-length _ (not-true _ (c .before .if1 .taken)))
+    (λ c κs. omega arith)
+    (λ c κs. search needs)
+    (λ c. c .refused2 .ensures ∙ stop-9 (now (c .before .before .before .before .before .args .table)) (not-false _ (c .before .before .before .if1 .left)) (c .before .before .first-plain .ensures) (c .before .if2 .taken))
+    (λ c κs. omega arith)
+    (λ c κs. search needs)
+    (λ c.
+    c .refused3 .ensures
+    ∙ stop-10 (now (c .before .before .before .before .before .before .before .args .table)) (not-false _ (c .before .before .before .before .before .if1 .left)) (c .before .before .before .before .first-plain .ensures) (c .before .before .before .if2 .left) (c .before .before .first-plain2 .ensures) (c .before .if3 .taken))
+    (λ c κs. (omega arith, table-few (now (c .before .before .before .before .before .before .args .table)) (not-false _ (c .before .before .before .before .if1 .left))))
+    (λ c κs. search needs)
+    (λ c.
+    let p = c .before .before .before in
+    c .refused4 .ensures
+    ∙ stop-11 (now (p .before .before .before .before .before .before .before .args .table)) (not-false _ (p .before .before .before .before .before .if1 .left)) (p .before .before .before .before .first-plain .ensures) (p .before .before .before .if2 .left) (p .before .before .first-plain2 .ensures)
+    (p .before .if3 .left) (p .parent-faults .ensures) (c .before .if4 .taken))
+    (λ c κs. search needs)
+    (λ c.
+    let p = c .before .before .before .before .before in
+    c .refused5 .ensures
+    ∙ stop-26 (now (p .before .before .before .before .before .before .before .args .table)) (not-false _ (p .before .before .before .before .before .if1 .left)) (p .before .before .before .before .first-plain .ensures) (p .before .before .before .if2 .left) (p .before .before .first-plain2 .ensures)
+    (p .before .if3 .left) (p .parent-faults .ensures) (c .before .before .before .if4 .left) (c .before .if5 .taken))
+    (λ c. search needs)
     (λ c. search needs)
     (λ c. search needs)
     (λ c κs.
-    let t = now (c .before .before .before .before .args .table) in
-    let ok = not-false _ (c .before .before .if1 .left) in
-    (omega arith, table-few t ok, no-rest rowWords t (table-whole t ok)))
-    (λ c. test-hit (c .before .before .before .loop .inv) (c .before .before .loop-test .taken) (c .before .first-row-fault .ensures) (c .if2 .taken))
-    (λ c. omega (arith, c .before .before .loop-test .taken))
-    (λ c. omega (arith, c .before .before .loop-test .taken))
-    (λ c. test-more (c .before .before .before .loop .inv) (c .before .before .loop-test .taken) (c .before .first-row-fault .ensures) (c .if2 .left))
-    (λ c. test-end (c .before .loop .inv) (c .loop-test .left)))
+    let t = now (c .before .before .before .before .before .before .before .before .before .before .before .before .args .table) in
+    let ok = not-false _ (c .before .before .before .before .before .before .before .before .before .before .if1 .left) in
+    (no-rest rowWords t (table-whole t ok), (omega arith, table-few t ok)))
+    (λ c κs. search needs)
+    (λ c.
+    let p = c .before .before .before .before .before .before .before .before in
+    c .refused6 .ensures
+    ∙ stop-12 (now (p .before .before .before .before .before .before .before .args .table)) (not-false _ (p .before .before .before .before .before .if1 .left)) (p .before .before .before .before .first-plain .ensures) (p .before .before .before .if2 .left) (p .before .before .first-plain2 .ensures)
+    (p .before .if3 .left) (p .parent-faults .ensures) (c .before .before .before .before .before .before .if4 .left) (c .before .before .before .before .if5 .left) refl (c .before .before .first-twin .ensures) (c .before .if6 .taken))
+    (λ c.
+    let p = c .before .before .before .before .before .before .before in
+    all-passed (now (p .before .before .before .before .before .before .before .args .table)) (not-false _ (p .before .before .before .before .before .if1 .left)) (p .before .before .before .before .first-plain .ensures) (p .before .before .before .if2 .left) (p .before .before .first-plain2 .ensures)
+    (p .before .if3 .left) (p .parent-faults .ensures) (c .before .before .before .before .before .if4 .left) (c .before .before .before .if5 .left) refl (c .before .first-twin .ensures) (c .if6 .left)))

@@ -3,7 +3,7 @@ use Prim.Native.Nat.{_-_}
 use mathlib.Core.Path.{sym, _∙_}
 use native.Mathlib.Omega.{arith}
 use Rattle.base.proofs.Search.{Passed, begin, hit, miss, none}
-use Rattle.tables.specs.Chains.{plainFault}
+use Rattle.tables.specs.Links.{plainFault}
 use Rattle.tables.proofs.tables.first_plain.Statement.{statement}
 use Rattle.tables.proofs.tables.first_plain.Tie as tie
 
