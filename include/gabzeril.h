@@ -12,7 +12,7 @@
  * output and leaves what lies past it.
  *
  * Stack on the largest inputs of the tests, in KiB: gabzeril_verdict 34, gabzeril_marks 43, gabzeril_part 44,
- * gabzeril_check_files 56, gabzeril_report 66, every other call below 5. The tests run each in a thread of
+ * gabzeril_check_files 60, gabzeril_report 70, every other call below 9. The tests run each in a thread of
  * 128 KiB; that is no promise.
  */
 #ifndef GABZERIL_H

@@ -26,7 +26,7 @@ tableFile names k check file = andThen (checkFile names k file) (check (readWord
 abbrev pub ruleFile : List ℕ → Answer
 ruleFile file = tableFile ruleNames entryWords checkRule file
 
--- 18, 19, 8 to 12
+-- 18, 19, 8 to 12 with 26
 abbrev pub poolFile : List ℕ → Answer
 poolFile file = tableFile poolNames rowWords checkTable file
 

@@ -10,7 +10,7 @@ use Rattle.base.proofs.Bools.{either}
 use Rattle.tables.specs.Tables.{root, isParent}
 use Rattle.tables.specs.declared.Row.{Row}
 use Rattle.tables.proofs.Accepted.{parent-device, parent-at}
-use Rattle.tables.proofs.Proper.{Above, above-key, Rising, none-rise, more-rise, Proper, up-low, root-alone}
+use Rattle.tables.proofs.OrderedRows.{Above, above-key, Rising, none-rise, more-rise, Parented, up-low, root-alone}
 use Rattle.logic.specs.Parts.{lineage, ancestors}
 use Rattle.logic.specs.Demand.{Under, under-parent, under-above}
 
@@ -114,9 +114,9 @@ pub under-trans : {D : List Row} {r s t : Row} → Under D r s → Under D s t �
 under-trans (under-parent m c) k = under-above m c k
 under-trans (under-above m c u) k = under-above m c (under-trans u k)
 
-module _ (D : List Row) (ok : Proper D) where
+module _ (D : List Row) (ok : Parented D) where
   falls : Falling (reverse D)
-  falls = fall-back (ok .order .rise) (up-low ok) (λ r x m. elim m [ ]) none-fall
+  falls = fall-back (ok .rise) (up-low ok) (λ r x m. elim m [ ]) none-fall
 
   back-in : {r : Row} → r ∈ reverse D → r ∈ D
   back-in {r} m = elim (reverse-out D [] m) [ inl k ↦ k | inr k ↦ elim k [ ] ]

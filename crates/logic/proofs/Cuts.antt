@@ -57,17 +57,17 @@ module _ (D : List Row) (ok : Proper D) (isSpare t : Row → Bool) (failing : (r
           → (isSpare r ≡ true) ⊎ ((s : Row) × (s ∈ D) × (¬ (s ∈ select stays D)) × Under D r s)
       lost r false e c k n = inl (failing r e)
       lost r true e true k n = absurd (n (and-both (t r) (all t (ancestors D r)) e k))
-      lost r true e false k n = let w = all-false t (ancestors D r) k in inr (w .0, ancestor-in D ok r (w .0) (w .1), out (w .0) (w .2), ancestor-under D ok r (w .0) (w .1))
+      lost r true e false k n = let w = all-false t (ancestors D r) k in inr (w .0, ancestor-in D (ok .order .parented) r (w .0) (w .1), out (w .0) (w .2), ancestor-under D (ok .order .parented) r (w .0) (w .1))
 
       kept : (r s : Row) → (t r && all t (ancestors D r)) ≡ true → Under D r s → ¬ ((t s && all t (ancestors D s)) ≡ true) → ⊥
       kept r s e u n = go (all t (ancestors D s)) refl
         where
           above : (x : Row) → Under D r x → t x ≡ true
-          above x v = all-at t (and-right (t r) (all t (ancestors D r)) e) (under-ancestor D ok r x v)
+          above x v = all-at t (and-right (t r) (all t (ancestors D r)) e) (under-ancestor D (ok .order .parented) r x v)
 
           go : (c : Bool) → all t (ancestors D s) ≡ c → ⊥
           go true k = n (and-both (t s) (all t (ancestors D s)) (above s u) k)
-          go false k = let w = all-false t (ancestors D s) k in true≢false (sym (above (w .0) (under-trans u (ancestor-under D ok s (w .0) (w .1)))) ∙ w .2)
+          go false k = let w = all-false t (ancestors D s) k in true≢false (sym (above (w .0) (under-trans u (ancestor-under D (ok .order .parented) s (w .0) (w .1)))) ∙ w .2)
 
 pub all-is-cut : (isSpare : Row → Bool) (D : List Row) → Cut isSpare D D
 all-is-cut isSpare D = record { keeps = Sublistᴰ·refl D; left-out = λ r i n. absurd (n i); sent = λ r s i j n u. n j }

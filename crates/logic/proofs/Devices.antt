@@ -89,7 +89,7 @@ module _ (F : Formula) (ds : List Device) (ok : Devices F ds) where
   key-is p r i j k =
       let w = concatMap-out ownOf ds i in
       let number = ok .own-rows (w .0) (w .1) p (w .2) in
-      rising-key (ok .proper (w .0) (w .1) .order .rise) p r (w .2) (in-own (w .0) (w .1) r j (sym (k .device) ∙ number)) k
+      rising-key (ok .proper (w .0) (w .1) .order .parented .rise) p r (w .2) (in-own (w .0) (w .1) r j (sym (k .device) ∙ number)) k
 
   -- a row whose parent stays has no other parent
   parent-stays : (r p : Row) → Attached allOwn keep r → p ∈ allOwn → isParent r p ≡ true → keep p ≡ true
@@ -131,7 +131,7 @@ module _ (F : Formula) (ds : List Device) (ok : Devices F ds) where
   -- the rows sent are the dump's rows that are in a cut
   cut-select : (d : Device) → d ∈ ds → sentOf d ≡ select keep (ownOf d)
   cut-select d m =
-      sub-is-select keep (ok .cuts d m .keeps) (ok .proper d m .order .rise)
+      sub-is-select keep (ok .cuts d m .keeps) (ok .proper d m .order .parented .rise)
       (λ r i. member-in allSent (concatMap-in sentOf m i))
       (λ r i n. not-in allSent (λ j. n (in-cut d m r j (ok .own-rows d m r i))))
 

@@ -112,7 +112,7 @@ module _ (F : Formula) (ds : List Device) (twice : NoneTwice ds) (sends : (d : D
     cuts-whole e m = sends e (sub-in first-part m) .sends .whole-rows
 
     across : Rising (rows (sent es) ++ rows (d .cut))
-    across = subst Rising (rows-append (sent es) (d .cut) (whole-is (sent es) (whole-concat (λ e. e .cut) es cuts-whole))) (rows-proper (sent es ++ d .cut) both-accepted .order .rise)
+    across = subst Rising (rows-append (sent es) (d .cut) (whole-is (sent es) (whole-concat (λ e. e .cut) es cuts-whole))) (rows-proper (sent es ++ d .cut) both-accepted .order .parented .rise)
 
     lower : (r x : Row) → r ∈ rows (sent es) → x ∈ sentOf d → r .device < x .device
     lower r x i j = go (rising-across (rows (sent es)) (rows (d .cut)) across r x i j) (concatMap-out sentOf es (subst (λ (l : List Row). r ∈ l) (rows-concat (λ e. e .cut) es cuts-whole) i))

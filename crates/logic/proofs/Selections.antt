@@ -37,5 +37,5 @@ module _ (t : List ℕ) (ok : acceptedTable t ≡ true) where
   pub sub-accepted : (C : List Row) → Sublistᴰ C (rows t) → ((r p : Row) → r ∈ C → p ∈ rows t → isParent r p ≡ true → p ∈ C) → acceptedTable (wordsOf C) ≡ true
   sub-accepted C s closed =
       subst (λ (l : List Row). acceptedTable (wordsOf l) ≡ true)
-      (sym (sub-is-select (member C) s (rows-proper t ok .order .rise) (λ r m. member-in C m) (λ r m n. not-in C n)))
+      (sym (sub-is-select (member C) s (rows-proper t ok .order .parented .rise) (λ r m. member-in C m) (λ r m n. not-in C n)))
       (kept-accepted (member C) (λ r p i j k c. member-in C (closed r p (in-member C k) j c)))

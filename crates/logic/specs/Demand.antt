@@ -1,4 +1,4 @@
--- 01, What demand 3 compares. A rule is accepted if its checks (1 to 7) find no fault, a table if its own (8 to 12) find none:
+-- 01, What demand 3 compares. A rule is accepted if its checks (1 to 7) find no fault, a table if its own (8 to 12 with 26) find none:
 -- `acceptedRule` and `acceptedTable`. Assumes nothing.
 use Prim.Native.Nat.{ℕ, _*_, _≤_, _<_}
 use mathlib.Core.Path.{_≡_}

@@ -79,7 +79,7 @@ module _ {rule t parents kept : List ℕ} {m i : ℕ} (ready : ReadyRow rule t p
   stay-root : parentOf t i ≡ i → stay i ≡ own
   unfolding stays own
   stay-root e =
-      ap (λ (b : Bool). cond (eqb m 1) true b) (stays-root D (rows-proper t (ok .accepted)) (passes m F D) (rowAt t i) (is-root e))
+      ap (λ (b : Bool). cond (eqb m 1) true b) (stays-root D (rows-proper t (ok .accepted) .order .parented) (passes m F D) (rowAt t i) (is-root e))
       ∙ go-root (eqb m 1) true ∙ go (eqb m 1)
     where
       go : (b : Bool) → ((b || passes m F D (rowAt t i)) && cond b true true) ≡ (b || passes m F D (rowAt t i))
@@ -90,7 +90,7 @@ module _ {rule t parents kept : List ℕ} {m i : ℕ} (ready : ReadyRow rule t p
   unfolding stays own
   stay-child n =
       ap (λ (b : Bool). cond (eqb m 1) true b)
-      (stays-child D (rows-proper t (ok .accepted)) (passes m F D) (rowAt t i) (rowAt t (parentOf t i))
+      (stays-child D (rows-proper t (ok .accepted) .order .parented) (passes m F D) (rowAt t i) (rowAt t (parentOf t i))
       (row-in t (parentOf t i) (omega (arith, parent-before t (ok .accepted) i (ready .row-inside) n, ready .row-inside)))
       (parent-is t (ok .accepted) i (ready .row-inside) n))
       ∙ go-root (eqb m 1) (passes m F D (rowAt t (parentOf t i)) && all (passes m F D) (ancestors D (rowAt t (parentOf t i))))

@@ -14,7 +14,7 @@ use Rattle.tables.specs.Devices.{fromDevice}
 use Rattle.tables.specs.declared.Answer.the-variants.{Done}
 use Rattle.tables.proofs.Answers.{unless-ok, unless-next, unless-passed, listed, no-fault, in-order-passed}
 use Rattle.tables.proofs.Ordered as laws
-use Rattle.tables.proofs.Ordered.{but12, orderedTable, order}
+use Rattle.tables.proofs.Ordered.{but12, orderedTable, order, Placed}
 pub use Rattle.tables.proofs.Ordered.{parent-device, parent-at}
 
 module _ (t : List ℕ) where
@@ -48,6 +48,9 @@ module _ (t : List ℕ) where
     pub ordered : orderedTable t ≡ true
     ordered = order t length-ok (λ k m. faultless k (select-out but12 tableChecks m .0))
 
+    placed : Placed t
+    placed = laws.placed t ordered
+
     pub whole-rows : length t ≡ rowWords * rowCount t
     whole-rows = laws.whole-rows t ordered
 
@@ -55,26 +58,26 @@ module _ (t : List ℕ) where
     few-rows = laws.few-rows t ordered
 
     pub rises : (i j : ℕ) → i ≤ j → j < rowCount t → rowAt t i .device ≤ rowAt t j .device
-    rises = laws.rises t ordered
+    rises = laws.rises t placed
 
     pub strictly : (i j : ℕ) → i < j → j < rowCount t → rowAt t i .device ≡ rowAt t j .device → rowAt t i .at < rowAt t j .at
-    strictly = laws.strictly t ordered
+    strictly = laws.strictly t placed
 
     pub same-place : (i j : ℕ) → i < rowCount t → j < rowCount t → rowAt t i .device ≡ rowAt t j .device → rowAt t i .at ≡ rowAt t j .at → i ≡ j
-    same-place = laws.same-place t ordered
+    same-place = laws.same-place t placed
 
     pub has-parent : (i : ℕ) → i < rowCount t → root (rowAt t i) ≡ false → (p : ℕ) × (p < i) × (isParent (rowAt t i) (rowAt t p) ≡ true)
-    has-parent = laws.has-parent t ordered
+    has-parent = laws.has-parent t placed
 
     pub behind : (p i : ℕ) → p < rowCount t → i < rowCount t → isParent (rowAt t i) (rowAt t p) ≡ true → p < i
-    behind = laws.behind t ordered
+    behind = laws.behind t placed
 
     pub depth-le : (i : ℕ) → i < rowCount t → rowAt t i .deep ≤ i
     depth-le = laws.depth-le t ordered
 
     module _ (d i : ℕ) (h : i < rowCount t) where
       pub in-part : fromDevice t d ≤ i → i < fromDevice t (d + 1) → rowAt t i .device ≡ d
-      in-part = laws.in-part t ordered d i h
+      in-part = laws.in-part t placed d i h
 
       pub of-device : rowAt t i .device ≡ d → (fromDevice t d ≤ i) × (i < fromDevice t (d + 1))
-      of-device = laws.of-device t ordered d i h
+      of-device = laws.of-device t placed d i h

@@ -12,13 +12,12 @@ use borrow.Author.Tests.{lt-ltb, ltb-false, leb-false, eqb-true, eq-eqb, le-leb,
 use Rattle.base.specs.Lists.{_∈_}
 use Rattle.base.specs.Search.{sumBelow}
 use Rattle.base.proofs.Bools.{either, and-both, or-left, or-right}
-use Rattle.tables.specs.Answers.{number, unless, inOrder}
+use Rattle.tables.specs.Answers.{number, inOrder}
 use Rattle.tables.specs.Words.{entryWords, entryAt, entryCount}
 use Rattle.tables.specs.Rules.{nestingLimit, isQuantifier, isConnective, isComparison, hasChild, one, namings, isChild, timesNamed, aroundFrom, around, unknownKind, badPlace, badChild, badNaming, tooDeep, unbound, entryFault, entryLimit, ruleLength, ruleChecks, checkRule, acceptedRule}
 use Rattle.tables.specs.declared.Entry.{Entry}
-use Rattle.tables.specs.declared.Answer.{Answer}
 use Rattle.tables.specs.declared.Answer.the-variants.{Refused}
-use Rattle.tables.proofs.Answers.{unless-ok, unless-next, listed, no-fault, FirstAtFault, first-at-fault, before, passed-earlier}
+use Rattle.tables.proofs.Answers.{unless-past, unless-ok, unless-next, listed, no-fault, FirstAtFault, first-at-fault, before, passed-earlier}
 use Rattle.tables.proofs.Whole.{whole-lines, rule-whole, rule-some, rule-few}
 
 -- ---- a sum holds each of its terms
@@ -192,13 +191,9 @@ module _ (r : List ℕ) (ok : acceptedRule r ≡ true) where
 
 -- ---- a refused rule: but for 1, the place is the first entry with the fault of that number, and no entry has an earlier one
 module _ (r : List ℕ) (k p : ℕ) (h : 1 < k) (refused : checkRule r ≡ Refused k p) where
-  past-length : (ok : Bool) (next : Answer) → unless ok 1 next ≡ Refused k p → next ≡ Refused k p
-  past-length true next q = q
-  past-length false next q = absurd (let z : 1 ≡ k = ap number q in omega arith)
-
   in-entries : inOrder (entryFault r) (entryCount r) ruleChecks ≡ Refused k p
   unfolding checkRule
-  in-entries = past-length (ruleLength r) _ refused
+  in-entries = unless-past (ruleLength r) 1 _ (λ e. omega arith) refused
 
   pub refused-entry : FirstAtFault (entryFault r) (entryCount r) k p
   refused-entry = first-at-fault (entryFault r) (entryCount r) k p ruleChecks in-entries

@@ -26,6 +26,11 @@ unless-next false k next e = absurd (false≢true e)
 pub unless-passed : (ok : Bool) (k : ℕ) (next : Answer) → ok ≡ true → unless ok k next ≡ next
 unless-passed ok k next e = rw e
 
+-- a refusal with another number is that of the next answer
+pub unless-past : (ok : Bool) (j : ℕ) (next : Answer) {k p : ℕ} → (j ≡ k → ⊥) → unless ok j next ≡ Refused k p → next ≡ Refused k p
+unless-past true j next h e = e
+unless-past false j next h e = absurd (h (ap number e))
+
 pub andThen-first : (a next : Answer) → isDone (andThen a next) ≡ true → isDone a ≡ true
 andThen-first (Done n) next e = refl
 andThen-first (Refused k p) next e = e

@@ -1,7 +1,7 @@
--- Each number's fault of an entry, and the refusals in their order. Assumes nothing.
+-- Each number's fault of an entry or a row, and the refusals in their order. Assumes nothing.
 use Prim.Native.Nat.{ℕ, _+_, _-_, _≤_, _<_}
-use mathlib.Core.Path.{_≡_, sym, ap, fun-ext, _∙_}
-use mathlib.Core.Bool.{Bool, true, false, not, _&&_, _||_}
+use mathlib.Core.Path.{_≡_, sym, ap, _∙_}
+use mathlib.Core.Bool.{Bool, true, false, not, _&&_}
 use mathlib.Core.List.{List, [], _∷_, _++_, append-nil}
 use native.Mathlib.Numerals.{add-one}
 use native.Mathlib.Omega.{arith}
@@ -10,7 +10,6 @@ use lib.ListN.{length, getD, drop, drop-of-length-le}
 use lib.Seq.{drop-cons}
 use borrow.Author.Tests.{ne-eqb, lt-ltb, le-ltb}
 use Rattle.base.specs.Search.{sumBelow, first}
-use Rattle.base.proofs.Bools.{either, or-left, or-right}
 use Rattle.tables.specs.Words.{entryAt, entryCount, rowAt, rowCount}
 use Rattle.tables.specs.Rules.{nestingLimit, unknownKind, badWord, badChild, unbound, isQuantifier, namings, around, entryFault, ruleLength, ruleChecks, checkRule}
 use Rattle.tables.specs.Answers.{unlessAny, inOrder}
@@ -138,31 +137,32 @@ module _ (t : List ℕ) (short : tableLength t ≡ true) where
       pub stop-10 : b < n → Refused 10 b ≡ checkTable t
       stop-10 = test-hit left-10 (omega arith) fault-10
 
-      module _ (b-past : n ≤ b) {orphan depth : ℕ} (faults : FirstFaults t n orphan depth) where
+      module _ (b-past : n ≤ b) {parent depth : ℕ} (faults : FirstFaults t n parent depth) where
         left-11 : Left 2
         left-11 = test-more left-10 (omega arith) fault-10 b-past
 
-        fault-11 : orphan ≡ first (rowFault t 11) n
+        fault-11 : parent ≡ first (rowFault t 11) n
         unfolding rowFault
-        fault-11 = faults .orphan-is
+        fault-11 = faults .parent-is
 
-        pub stop-11 : orphan < n → Refused 11 orphan ≡ checkTable t
+        pub stop-11 : parent < n → Refused 11 parent ≡ checkTable t
         stop-11 = test-hit left-11 (omega arith) fault-11
 
-        module _ (orphan-past : n ≤ orphan) where
+        module _ (all-parents : n ≤ parent) where
           left-26 : Left 3
-          left-26 = test-more left-11 (omega arith) fault-11 orphan-past
+          left-26 = test-more left-11 (omega arith) fault-11 all-parents
 
           fault-26 : depth ≡ first (rowFault t 26) n
           unfolding rowFault
-          fault-26 = faults .depth-is orphan-past
+          fault-26 = faults .depth-is all-parents
 
           pub stop-26 : depth < n → Refused 26 depth ≡ checkTable t
           stop-26 = test-hit left-26 (omega arith) fault-26
 
-          module _ (depth-past : n ≤ depth) {u : List ℕ} (u-is : u ≡ []) {twin : ℕ} (twin-is : twin ≡ first (hasTwin (t ++ u)) n) where
+          module _ (right-depths : n ≤ depth) {u : List ℕ} (u-is : u ≡ [])
+              {twin : ℕ} (twin-is : twin ≡ first (hasTwin (t ++ u)) n) where
             left-12 : Left 4
-            left-12 = test-more left-26 (omega arith) fault-26 depth-past
+            left-12 = test-more left-26 (omega arith) fault-26 right-depths
 
             fault-12 : twin ≡ first (rowFault t 12) n
             unfolding rowFault

@@ -6,6 +6,8 @@ pub mod Accepted
 pub mod Nesting
 pub mod Faults
 pub mod Linked
+pub mod ParentFaults
+pub mod Siblings
 pub mod Joins
 pub mod Parting
 pub mod RowLists

@@ -3,7 +3,7 @@
 use Prim.Native.Nat.{ℕ, zero, suc, _+_, _-_, _≤_, _<_}
 use mathlib.Core.Path.{_≡_, sym, ap, subst, _∙_}
 use mathlib.Core.Logic.{_⊎_, inl, inr, ⊎-elim}
-use mathlib.Core.Bool.{Bool, true, false, not, _&&_, _||_}
+use mathlib.Core.Bool.{Bool, true, false, _&&_, _||_}
 use mathlib.Core.List.{List, [], _∷_, _++_, List·Memᴰ·head, List·Memᴰ·tail, Memᴰ·append-right}
 use native.Mathlib.Nat.{eq-or-lt-of-le}
 use native.Mathlib.Omega.{arith}
@@ -12,11 +12,11 @@ use borrow.Author.Tests.{eqb-true, eq-eqb, ltb-true, ltb-false, lt-ltb}
 use Rattle.base.specs.Lists.{_∈_, put, select}
 use Rattle.base.proofs.Bools.{either, and-left, and-right, and-both, or-left, or-right, or-cases, or-first, or-second}
 use Rattle.base.proofs.Lists.{select-in, select-out}
-use Rattle.base.proofs.Search.{some-at}
 use Rattle.tables.specs.Words.{notIdentifier, notValue, rowAt, rowCount, rowsFrom, rows}
-use Rattle.tables.specs.Tables.{root, isParent, isDeeper, isAbove, outOfRange, notAbove, noParent, wrongDepth, rowFault, tableLength}
+use Rattle.tables.specs.Tables.{root, isParent, isAbove, outOfRange, notAbove, noParent, wrongDepth, rowFault, tableLength}
 use Rattle.tables.specs.declared.Row.{Row}
-use Rattle.tables.proofs.Ordered.{orderChecks, orderedTable, order, no-9, has-parent, root-depth, child-depth, rises, strictly, parent-at, parent-device}
+use Rattle.tables.proofs.Ordered.{orderChecks, orderedTable, order, Placed, placed, has-parent, root-depth, child-depth, fits-depth, rises, strictly, parent-at, parent-device}
+use Rattle.tables.proofs.ParentFaults.{depth-parent}
 use Rattle.tables.proofs.RowLists.{from-in, from-out, row-in, row-out}
 
 -- ---- order
@@ -75,11 +75,15 @@ rising-select keep (more-rise {x = x} {xs = xs} l w) = go (keep x) (rising-selec
     go true k = more-rise (λ y m. l y (select-out keep xs m .0)) k
     go false k = k
 
--- ---- what checks 9 to 11 and 26 say
-pub record Ordered (T : List Row) : Type 0 where
+-- ---- what checks 9 to 11 say
+pub record Parented (T : List Row) : Type 0 where
   pub ranged : (r : Row) → r ∈ T → outOfRange r ≡ false
   pub rise : Rising T
   pub parents : (r : Row) → r ∈ T → root r ≡ false → (p : Row) × (p ∈ T) × (isParent r p ≡ true) × Above p r
+
+-- ---- and 26
+pub record Ordered (T : List Row) : Type 0 where
+  pub parented : Parented T
   pub top : (r : Row) → r ∈ T → root r ≡ true → r .deep ≡ 0
   pub deeper : (r p : Row) → r ∈ T → p ∈ T → isParent r p ≡ true → r .deep ≡ p .deep + 1
 
@@ -90,7 +94,7 @@ at-low r e =
     let n = notIdentifier (r .name) in
     ltb-false (r .at) 1 (or-left (ltb (r .at) 1) (ltb 65535 (r .at)) (or-right d a (or-left (d || a) n (or-left (d || a || n) (notValue (r .value)) e))))
 
-module _ {T : List Row} (ok : Ordered T) where
+module _ {T : List Row} (ok : Parented T) where
   -- no row has at 0, so a root has no parent
   pub root-alone : (r p : Row) → p ∈ T → isParent r p ≡ true → root r ≡ true → ⊥
   root-alone r p m c e =
@@ -111,18 +115,21 @@ module _ {T : List Row} (ok : Ordered T) where
       go p u d (inl h) = absurd (omega arith)
       go p u d (inr h) = omega arith
 
-  -- a selection that has the parent of each of its rows
-  pub ordered-select : (keep : Row → Bool) → ((r p : Row) → r ∈ T → p ∈ T → keep r ≡ true → isParent r p ≡ true → keep p ≡ true) → Ordered (select keep T)
-  ordered-select keep closed = record {
-    ranged = λ r m. ok .ranged r (select-out keep T m .0);
-    rise = rising-select keep (ok .rise);
+-- a selection that has the parent of each of its rows
+pub ordered-select : {T : List Row} → Ordered T → (keep : Row → Bool)
+    → ((r p : Row) → r ∈ T → p ∈ T → keep r ≡ true → isParent r p ≡ true → keep p ≡ true) → Ordered (select keep T)
+ordered-select {T} ok keep closed = record {
+  parented = record {
+    ranged = λ r m. ok .parented .ranged r (select-out keep T m .0);
+    rise = rising-select keep (ok .parented .rise);
     parents = λ r m e.
         let i = select-out keep T m in
-        let w = ok .parents r (i .0) e in
+        let w = ok .parented .parents r (i .0) e in
         (w .0, select-in keep (w .1) (closed r (w .0) (i .0) (w .1) (i .1) (w .2)), w .2, w .3);
-    top = λ r m. ok .top r (select-out keep T m .0);
-    deeper = λ r p m n. ok .deeper r p (select-out keep T m .0) (select-out keep T n .0);
-  }
+  };
+  top = λ r m. ok .top r (select-out keep T m .0);
+  deeper = λ r p m n. ok .deeper r p (select-out keep T m .0) (select-out keep T n .0);
+}
 
 -- ---- where rows rise by their numbers, a row below another one stands before it
 pub before : (t : List ℕ) → ((j k : ℕ) → j < k → k < rowCount t → Above (rowAt t j) (rowAt t k))
@@ -143,7 +150,7 @@ rising-from t i (suc n) h = more-rise later (rising-from t (suc i) n (λ j k a b
     later : (y : Row) → y ∈ rowsFrom t (suc i) n → Above (rowAt t i) y
     later y m = let w = from-out t (suc i) n m in subst (Above (rowAt t i)) (sym (w .3)) (h i (w .0) (omega arith) (omega (arith, w .1)) (omega (arith, w .2)))
 
-module _ (t : List ℕ) (ok : orderedTable t ≡ true) where
+module _ (t : List ℕ) (ok : Placed t) where
   pub rows-above : (j k : ℕ) → j < k → k < rowCount t → Above (rowAt t j) (rowAt t k)
   rows-above j k l h = either (ltb (rowAt t j .device) (rowAt t k .device))
       (λ e. inl (ltb-true _ _ e))
@@ -152,11 +159,23 @@ module _ (t : List ℕ) (ok : orderedTable t ≡ true) where
       let same : rowAt t j .device ≡ rowAt t k .device = omega arith in
       inr (same, strictly t ok j k l h same))
 
-  pub rows-ordered : Ordered (rows t)
-  rows-ordered = record {
-    ranged = λ r m. let i = row-out t m in subst (λ (z : Row). outOfRange z ≡ false) (sym (i .2)) (no-9 t ok (i .0) (i .1));
+  pub rows-parented : Parented (rows t)
+  rows-parented = record {
+    ranged = λ r m. let i = row-out t m in subst (λ (z : Row). outOfRange z ≡ false) (sym (i .2)) (ok .no-9 (i .0) (i .1));
     rise = rising-from t 0 (rowCount t) (λ j k a b c. rows-above j k b (omega arith));
     parents = λ r m e. found r (row-out t m) e;
+  }
+    where
+      found : (r : Row) → (j : ℕ) × (j < rowCount t) × (r ≡ rowAt t j) → root r ≡ false → (p : Row) × (p ∈ rows t) × (isParent r p ≡ true) × Above p r
+      found r i e =
+          let w = has-parent t ok (i .0) (i .1) (subst (λ (z : Row). root z ≡ false) (i .2) e) in
+          let l : w .0 < rowCount t = omega (arith, w .1, i .1) in
+          (rowAt t (w .0), row-in t (w .0) l, subst (λ (z : Row). isParent z (rowAt t (w .0)) ≡ true) (sym (i .2)) (w .2), subst (Above (rowAt t (w .0))) (sym (i .2)) (rows-above (w .0) (i .0) (w .1) (i .1)))
+
+module _ (t : List ℕ) (ok : orderedTable t ≡ true) where
+  pub rows-ordered : Ordered (rows t)
+  rows-ordered = record {
+    parented = rows-parented t (placed t ok);
     top = λ r m e. at-root r (row-out t m) e;
     deeper = λ r p m n e. below r p (row-out t m) (row-out t n) e;
   }
@@ -164,18 +183,13 @@ module _ (t : List ℕ) (ok : orderedTable t ≡ true) where
       at-root : (r : Row) → (j : ℕ) × (j < rowCount t) × (r ≡ rowAt t j) → root r ≡ true → r .deep ≡ 0
       at-root r i e = ap (λ (z : Row). z .deep) (i .2) ∙ root-depth t ok (i .0) (i .1) (subst (λ (z : Row). root z ≡ true) (i .2) e)
 
-      below : (r p : Row) → (j : ℕ) × (j < rowCount t) × (r ≡ rowAt t j) → (j : ℕ) × (j < rowCount t) × (p ≡ rowAt t j) → isParent r p ≡ true → r .deep ≡ p .deep + 1
+      below : (r p : Row) → (j : ℕ) × (j < rowCount t) × (r ≡ rowAt t j) → (j : ℕ) × (j < rowCount t) × (p ≡ rowAt t j)
+          → isParent r p ≡ true → r .deep ≡ p .deep + 1
       below r p i j e =
           ap (λ (z : Row). z .deep) (i .2)
           ∙ child-depth t ok (j .0) (i .0) (j .1) (i .1)
           (subst (λ (z : Row). isParent (rowAt t (i .0)) z ≡ true) (j .2) (subst (λ (z : Row). isParent z p ≡ true) (i .2) e))
           ∙ ap (λ (z : Row). z .deep + 1) (sym (j .2))
-
-      found : (r : Row) → (j : ℕ) × (j < rowCount t) × (r ≡ rowAt t j) → root r ≡ false → (p : Row) × (p ∈ rows t) × (isParent r p ≡ true) × Above p r
-      found r i e =
-          let w = has-parent t ok (i .0) (i .1) (subst (λ (z : Row). root z ≡ false) (i .2) e) in
-          let l : w .0 < rowCount t = omega (arith, w .1, i .1) in
-          (rowAt t (w .0), row-in t (w .0) l, subst (λ (z : Row). isParent z (rowAt t (w .0)) ≡ true) (sym (i .2)) (w .2), subst (Above (rowAt t (w .0))) (sym (i .2)) (rows-above (w .0) (i .0) (w .1) (i .1)))
 
 -- ---- ordered rows of a table short enough
 rising-at : (t : List ℕ) (i n : ℕ) → Rising (rowsFrom t i n) → (j k : ℕ) → i ≤ j → j < k → k < i + n → Above (rowAt t j) (rowAt t k)
@@ -188,33 +202,27 @@ rising-at t i (suc n) (more-rise l w) j k a b c = ⊎-elim
 
 module _ (t : List ℕ) (short : tableLength t ≡ true) (ok : Ordered (rows t)) where
   pub above-at : (j k : ℕ) → j < k → k < rowCount t → Above (rowAt t j) (rowAt t k)
-  above-at j k l h = rising-at t 0 (rowCount t) (ok .rise) j k (omega arith) l (omega arith)
+  above-at j k l h = rising-at t 0 (rowCount t) (ok .parented .rise) j k (omega arith) l (omega arith)
 
   ordered : (i : ℕ) → i < rowCount t → notAbove t i ≡ false
   ordered i h = either (ltb 0 i)
       (λ e. let p : 0 < i = ltb-true 0 i e in rw (e, is-above (rowAt t (i - 1)) (rowAt t i) (above-at (i - 1) i (omega arith) h)))
       (λ e. rw e)
 
-  parented : (i : ℕ) → i < rowCount t → noParent t i ≡ false
-  parented i h = either (root (rowAt t i))
-      (λ e. rw e)
-      (λ e. let w = ok .parents (rowAt t i) (row-in t i h) e in let j = row-out t (w .1) in
-      let l : j .0 < i = before t above-at (j .0) i (j .1) (subst (λ (z : Row). Above z (rowAt t i)) (j .2) (w .3)) in
-      rw (e, some-at (λ k. isParent (rowAt t i) (rowAt t k)) i (j .0) l (subst (λ (z : Row). isParent (rowAt t i) z ≡ true) (j .2) (w .2))))
-
   deep-right : (i : ℕ) → i < rowCount t → wrongDepth t i ≡ false
   deep-right i h = either (root (rowAt t i))
       (λ e. rw (e, eq-eqb (rowAt t i .deep) 0 (ok .top (rowAt t i) (row-in t i h) e)))
-      (λ e. let w = ok .parents (rowAt t i) (row-in t i h) e in let j = row-out t (w .1) in
+      (λ e. let w = ok .parented .parents (rowAt t i) (row-in t i h) e in let j = row-out t (w .1) in
       let l : j .0 < i = before t above-at (j .0) i (j .1) (subst (λ (z : Row). Above z (rowAt t i)) (j .2) (w .3)) in
       let c : isParent (rowAt t i) (rowAt t (j .0)) ≡ true = subst (λ (z : Row). isParent (rowAt t i) z ≡ true) (j .2) (w .2) in
-      let d : isDeeper (rowAt t i) (rowAt t (j .0)) ≡ true
-      = eq-eqb _ _ (ok .deeper (rowAt t i) (rowAt t (j .0)) (row-in t i h) (row-in t (j .0) (j .1)) c) in
-      rw (e, some-at (λ k. isParent (rowAt t i) (rowAt t k) && isDeeper (rowAt t i) (rowAt t k)) i (j .0) l (and-both _ _ c d)))
+      fits-depth t i e (j .0) l c (ok .deeper (rowAt t i) (rowAt t (j .0)) (row-in t i h) (row-in t (j .0) (j .1)) c))
+
+  parented : (i : ℕ) → i < rowCount t → noParent t i ≡ false
+  parented i h = depth-parent t i (deep-right i h)
 
   pub rows-faultless : (k : ℕ) → k ∈ orderChecks → (i : ℕ) → i < rowCount t → rowFault t k i ≡ false
   unfolding rowFault
-  rows-faultless k (List·Memᴰ·head e) i h = rw e (ok .ranged (rowAt t i) (row-in t i h))
+  rows-faultless k (List·Memᴰ·head e) i h = rw e (ok .parented .ranged (rowAt t i) (row-in t i h))
   rows-faultless k (List·Memᴰ·tail (List·Memᴰ·head e)) i h = rw e (ordered i h)
   rows-faultless k (List·Memᴰ·tail (List·Memᴰ·tail (List·Memᴰ·head e))) i h = rw e (parented i h)
   rows-faultless k (List·Memᴰ·tail (List·Memᴰ·tail (List·Memᴰ·tail (List·Memᴰ·head e)))) i h = rw e (deep-right i h)

@@ -15,7 +15,7 @@ use Rattle.tables.specs.Answers.{isDone}
 use Rattle.tables.specs.Words.{rowAt, rowCount, rows}
 use Rattle.tables.specs.Tables.{root, isParent, isTwin, hasTwin, rowFault, tableLength, tableChecks, acceptedTable}
 use Rattle.tables.specs.declared.Row.{Row}
-use Rattle.tables.proofs.Ordered.{but12}
+use Rattle.tables.proofs.Ordered.{but12, placed}
 use Rattle.tables.proofs.Accepted.{accept, ordered, no-twin}
 use Rattle.tables.proofs.RowLists.{row-in, row-out}
 use Rattle.tables.proofs.OrderedRows as laws
@@ -29,10 +29,10 @@ pub record Proper (T : List Row) : Type 0 where
 
 module _ {T : List Row} (ok : Proper T) where
   pub root-alone : (r p : Row) → p ∈ T → isParent r p ≡ true → root r ≡ true → ⊥
-  root-alone = laws.root-alone (ok .order)
+  root-alone = laws.root-alone (ok .order .parented)
 
   pub up-low : (r : Row) → r ∈ T → r .up < r .at
-  up-low = laws.up-low (ok .order)
+  up-low = laws.up-low (ok .order .parented)
 
   -- a selection that has the parent of each of its rows
   pub proper-select : (keep : Row → Bool) → ((r p : Row) → r ∈ T → p ∈ T → keep r ≡ true → isParent r p ≡ true → keep p ≡ true) → Proper (select keep T)
@@ -47,7 +47,7 @@ module _ (t : List ℕ) (ok : acceptedTable t ≡ true) where
   rows-proper = record { order = rows-ordered t (ordered t ok); siblings = λ r s m n. apart r s (row-out t m) (row-out t n) }
     where
       apart : (r s : Row) → (j : ℕ) × (j < rowCount t) × (r ≡ rowAt t j) → (j : ℕ) × (j < rowCount t) × (s ≡ rowAt t j) → Above s r → isTwin r s ≡ false
-      apart r s i j a = subst (λ (z : Row). isTwin z s ≡ false) (sym (i .2)) (subst (λ (z : Row). isTwin (rowAt t (i .0)) z ≡ false) (sym (j .2)) (no-twin t ok (j .0) (i .0) (before t (rows-above t (ordered t ok)) (j .0) (i .0) (j .1) above) (i .1)))
+      apart r s i j a = subst (λ (z : Row). isTwin z s ≡ false) (sym (i .2)) (subst (λ (z : Row). isTwin (rowAt t (i .0)) z ≡ false) (sym (j .2)) (no-twin t ok (j .0) (i .0) (before t (rows-above t (placed t (ordered t ok))) (j .0) (i .0) (j .1) above) (i .1)))
         where
           above : Above (rowAt t (j .0)) (rowAt t (i .0))
           above = subst (λ (z : Row). Above z (rowAt t (i .0))) (j .2) (subst (λ (z : Row). Above s z) (i .2) a)

@@ -15,7 +15,7 @@ abbrev pub follows : List ℕ → List ℕ → Bool
 follows s t =
     eqb (rowCount s) 0 || (eqb (rowCount t) 0 || ltb (rowAt s (rowCount s - 1) .device) (rowAt t 0 .device))
 
--- joining s and t in a buffer of that many words: 8 to 12 of the first, of the second, 16, 8 and 12 of the result, 17;
+-- joining s and t in a buffer of that many words: 8 to 12 with 26 of the first, of the second, 16, 8 and 12 of the result, 17;
 -- its value is the number of words of the joined table
 unfoldable pub joinTables : List ℕ → List ℕ → ℕ → Answer
 joinTables s t room =

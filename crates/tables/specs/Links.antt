@@ -1,11 +1,11 @@
 -- Private contracts of the checks of rows: rows with one hash are linked, each to the last one before it. Assumes nothing.
 use Prim.Native.Nat.{ℕ, zero, suc, _+_, _*_, _/_, _%_, _<_, _≤_}
 use mathlib.Core.Path.{_≡_}
-use mathlib.Core.Bool.{Bool, true, false, cond, not, _&&_, _||_}
+use mathlib.Core.Bool.{Bool, cond, not, _&&_, _||_}
 use mathlib.Core.List.{List}
 use lib.ListN.{length, getD}
 use lib.Dec.{eqb}
-use Rattle.base.specs.Search.{first, some}
+use Rattle.base.specs.Search.{first}
 use Rattle.tables.specs.Words.{rowAt}
 use Rattle.tables.specs.Tables.{rowLimit, root, isParent, isDeeper, outOfRange, notAbove, noParent, wrongDepth}
 use Rattle.tables.specs.declared.Row.{Row}
@@ -46,30 +46,26 @@ placeHash d a = hashOf d a 0 0
 abbrev pub placesAt : List ℕ → ℕ → ℕ
 placesAt t i = placeHash (rowAt t i .device) (rowAt t i .at)
 
--- row p is the parent of row r; where depth counts, r is one deeper, too
+-- row p is the parent of row r; where asked, r is one deeper, too
 unfoldable pub fitsParent : Bool → Row → Row → Bool
-fitsParent deep r p = isParent r p && (not deep || isDeeper r p)
+fitsParent deeper r p = isParent r p && (not deeper || isDeeper r p)
 
--- row r, behind the first i rows, has fault 26
-unfoldable pub wrongBefore : List ℕ → ℕ → Row → Bool
-wrongBefore t i r = not (cond (root r) (eqb (r .deep) 0) (some (λ j. fitsParent true r (rowAt t j)) i))
-
--- row r, behind the first i rows, has fault 11
-unfoldable pub orphanBefore : List ℕ → ℕ → Row → Bool
-orphanBefore t i r = not (root r) && not (some (λ j. fitsParent false r (rowAt t j)) i)
+-- row i has fault 26, or else fault 11
+unfoldable pub parentFault : Bool → List ℕ → ℕ → Bool
+parentFault deeper t i = cond deeper (wrongDepth t i) (noParent t i)
 
 -- the number of its fault, 11 before 26; 0 for none
-unfoldable pub faultBefore : List ℕ → ℕ → Row → ℕ
-faultBefore t i r = cond (wrongBefore t i r) (cond (orphanBefore t i r) 11 26) 0
+unfoldable pub parentNumber : List ℕ → ℕ → ℕ
+parentNumber t i = cond (wrongDepth t i) (cond (noParent t i) 11 26) 0
 
 -- a first place that is noted, where n is none so far
 unfoldable pub notedOf : ℕ → ℕ → ℕ → Bool → ℕ
 notedOf place n i fault = cond (fault && eqb place n) i place
 
 -- the first row with fault 11; where there is none, also the first with fault 26
-pub record FirstFaults (t : List ℕ) (n orphan depth : ℕ) : Type 0 where
-  pub orphan-is : orphan ≡ first (noParent t) n
-  pub depth-is : n ≤ orphan → depth ≡ first (wrongDepth t) n
+pub record FirstFaults (t : List ℕ) (n parent depth : ℕ) : Type 0 where
+  pub parent-is : parent ≡ first (noParent t) n
+  pub depth-is : n ≤ parent → depth ≡ first (wrongDepth t) n
 
 -- ---- siblings: a hash that equal ones share; for roots the device does not count
 unfoldable pub twinHash : Row → ℕ

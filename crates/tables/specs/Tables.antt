@@ -1,4 +1,4 @@
--- 01, the refusals of a table: 8 to 12, with 26 between 11 and 12. Assumes nothing.
+-- 01, the refusals of a table: 8 to 12, with 26 between 11 and 12, wherever they are named. Assumes nothing.
 use Prim.Native.Nat.{ℕ, _+_, _-_}
 use mathlib.Core.Bool.{Bool, cond, not, _&&_, _||_}
 use mathlib.Core.List.{List, [], _∷_}

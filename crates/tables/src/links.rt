@@ -1,6 +1,9 @@
 // Rows linked by hash, each to the last one before it with its hash: how checks 11, 26 and 12 look for earlier rows.
 ghost use mathlib.Core.Path.{_≡_};
-ghost use Rattle.tables.specs.Links.{hashOf};
+ghost use Prim.Native.Nat.{_+_, _<_};
+ghost use lib.ListN.{length, getD, set};
+ghost use Rattle.tables.specs.Tables.{rowLimit};
+ghost use Rattle.tables.specs.Links.{hashes, hashOf};
 
 // How far a chain is followed. Longer ones only come up where the hashes of many rows are equal, and then each step waits for the
 // one before: looking at all rows is quicker.
@@ -26,4 +29,16 @@ pub(crate) fn hash_of(device: u32, place: u32, name: u32, value: u32) -> usize
         + size(value) * 700227275)
         % 4294967296
         / 4194304
+}
+
+// Puts row i at the head of the chain of its hash, in front of the row that stood there.
+pub(crate) fn link(head: &mut [u16], next: &mut [u16], h: usize, i: usize)
+    requires { ⌜ h < length (now head) ⌝ }
+    requires { ⌜ i < length (now next) ⌝ }
+    requires { ⌜ (length (now head) ≡ hashes) × (length (now next) ≡ rowLimit) ⌝ }
+    ensures { λ _. ⌜ now (head .exit) ≡ set (now (head .entry)) h (i + 1) ⌝ }
+    ensures { λ _. ⌜ now (next .exit) ≡ set (now (next .entry)) i (getD (now (head .entry)) h 0) ⌝ }
+{
+    next[i] = head[h];
+    head[h] = (i + 1) as u16;
 }

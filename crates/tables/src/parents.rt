@@ -3,6 +3,9 @@ use super::Row;
 use super::links::HASHES;
 use super::links::MOST_STEPS;
 use super::links::hash_of;
+use super::links::link;
+use super::rows::AT;
+use super::rows::ROW_WORDS;
 use super::rows::is_deeper;
 use super::rows::is_parent;
 use super::rows::row_at;
@@ -13,11 +16,11 @@ ghost use lib.ListN.{length};
 ghost use Rattle.base.specs.Search.{some};
 ghost use Rattle.tables.specs.Words.{rowWords, rowAt};
 ghost use Rattle.tables.specs.Tables.{rowLimit};
-ghost use Rattle.tables.specs.Links.{placeHash, placesAt, fitsParent, wrongBefore, orphanBefore, faultBefore, notedOf, FirstFaults, Linked, Heads};
+ghost use Rattle.tables.specs.Links.{placeHash, placesAt, fitsParent, parentFault, parentNumber, notedOf, FirstFaults, Linked, Heads};
 
-// The first row without its parent, and the first whose depth is wrong; the number of rows where there is none.
+// The first row without its parent; where there is none, also the first whose depth is wrong. The number of rows stands for none.
 pub(crate) struct ParentFaults {
-    pub(crate) orphan: usize,
+    pub(crate) parent: usize,
     pub(crate) depth: usize,
 }
 
@@ -27,21 +30,32 @@ fn place_hash(device: u32, at: u32) -> usize
     hash_of(device, at, 0, 0)
 }
 
-// Whether p is the parent of r; where depth counts, r is to be one deeper, too.
-fn fits_parent(deep: bool, r: Row, p: Row) -> bool
-    ensures { λ o. ⌜ o ≡ fitsParent deep r p ⌝ }
+// Whether p is the parent of r; where asked, r is to be one deeper, too.
+fn fits_parent(deeper: bool, r: Row, p: Row) -> bool
+    ensures { λ o. ⌜ o ≡ fitsParent deeper r p ⌝ }
 {
-    is_parent(r, p) & (!deep | is_deeper(r, p))
+    is_parent(r, p) & (!deeper | is_deeper(r, p))
+}
+
+// The place is tested first: one row of each device has it at most.
+fn fits_parent_at(t: &[u32], j: usize, deeper: bool, r: Row) -> bool
+    requires { ⌜ rowWords * j + rowWords ≤ length (now t) ⌝ }
+    ensures { λ o. ⌜ o ≡ fitsParent deeper r (rowAt (now (t .entry)) j) ⌝ }
+{
+    if t[ROW_WORDS * j + AT] == r.up {
+        return fits_parent(deeper, r, row_at(t, j));
+    }
+    false
 }
 
 // The first i rows, one after the other.
-fn scan_parents(t: &[u32], i: usize, deep: bool, r: Row) -> bool
+fn scan_parents(t: &[u32], i: usize, deeper: bool, r: Row) -> bool
     requires { ⌜ rowWords * i ≤ length (now t) ⌝ }
-    ensures { λ o. ⌜ o ≡ some (λ j. fitsParent deep r (rowAt (now (t .entry)) j)) i ⌝ }
+    ensures { λ o. ⌜ o ≡ some (λ j. fitsParent deeper r (rowAt (now (t .entry)) j)) i ⌝ }
 {
     let mut j = 0;
     while j < i {
-        if fits_parent(deep, r, row_at(t, j)) {
+        if fits_parent_at(t, j, deeper, r) {
             return true;
         }
         j += 1;
@@ -49,22 +63,22 @@ fn scan_parents(t: &[u32], i: usize, deep: bool, r: Row) -> bool
     false
 }
 
-// Whether one of the first i rows is the parent of r.
-fn has_parent(t: &[u32], head: &[u16], next: &[u16], i: usize, deep: bool, r: Row) -> bool
+// Whether one of the first i rows fits r as its parent.
+fn has_parent(t: &[u32], head: &[u16], next: &[u16], i: usize, deeper: bool, r: Row) -> bool
     requires { ⌜ rowWords * i ≤ length (now t) ⌝ }
     requires { ⌜ Heads (placesAt (now t)) (now head) i ⌝ }
     requires { ⌜ Linked (placesAt (now t)) (now next) i ⌝ }
-    ensures { λ o. ⌜ o ≡ some (λ j. fitsParent deep r (rowAt (now (t .entry)) j)) i ⌝ }
+    ensures { λ o. ⌜ o ≡ some (λ j. fitsParent deeper r (rowAt (now (t .entry)) j)) i ⌝ }
 {
     let h = place_hash(r.device, r.up);
     let mut at = head[h] as usize;
     let mut left = MOST_STEPS;
     while 0 < at {
         if left == 0 {
-            return scan_parents(t, at, deep, r);
+            return scan_parents(t, at, deeper, r);
         }
         let j = at - 1;
-        if fits_parent(deep, r, row_at(t, j)) {
+        if fits_parent(deeper, r, row_at(t, j)) {
             return true;
         }
         at = next[j] as usize;
@@ -73,44 +87,31 @@ fn has_parent(t: &[u32], head: &[u16], next: &[u16], i: usize, deep: bool, r: Ro
     false
 }
 
-// Whether r, behind the first i rows, has fault 26. A root has no parent, and depth 0.
-fn has_wrong_depth(t: &[u32], head: &[u16], next: &[u16], i: usize, r: Row) -> bool
-    requires { ⌜ rowWords * i ≤ length (now t) ⌝ }
+// Whether row i, which is r, has fault 26, or else fault 11. A root has no parent, and depth 0.
+fn is_parent_fault(t: &[u32], head: &[u16], next: &[u16], i: usize, deeper: bool, r: Row) -> bool
+    requires { ⌜ (rowWords * i ≤ length (now t)) × (r ≡ rowAt (now t) i) ⌝ }
     requires { ⌜ Heads (placesAt (now t)) (now head) i ⌝ }
     requires { ⌜ Linked (placesAt (now t)) (now next) i ⌝ }
-    ensures { λ o. ⌜ o ≡ wrongBefore (now (t .entry)) i r ⌝ }
+    ensures { λ o. ⌜ o ≡ parentFault deeper (now (t .entry)) i ⌝ }
 {
     if r.up == 0 {
-        return r.deep != 0;
+        return deeper & (r.deep != 0);
     }
-    !has_parent(t, head, next, i, true, r)
+    !has_parent(t, head, next, i, deeper, r)
 }
 
-// Whether r, behind the first i rows, has fault 11.
-fn is_orphan(t: &[u32], head: &[u16], next: &[u16], i: usize, r: Row) -> bool
-    requires { ⌜ rowWords * i ≤ length (now t) ⌝ }
+// The number of the fault of row i: 11 before 26; 0 for none. A row without its parent has no right depth, so 11 is asked for only
+// where 26 is found.
+fn parent_number(t: &[u32], head: &[u16], next: &[u16], i: usize, r: Row) -> u32
+    requires { ⌜ (rowWords * i ≤ length (now t)) × (r ≡ rowAt (now t) i) ⌝ }
     requires { ⌜ Heads (placesAt (now t)) (now head) i ⌝ }
     requires { ⌜ Linked (placesAt (now t)) (now next) i ⌝ }
-    ensures { λ o. ⌜ o ≡ orphanBefore (now (t .entry)) i r ⌝ }
+    ensures { λ o. ⌜ o ≡ parentNumber (now (t .entry)) i ⌝ }
 {
-    if r.up == 0 {
-        return false;
-    }
-    !has_parent(t, head, next, i, false, r)
-}
-
-// The number of the fault that r has behind the first i rows: 11 before 26; 0 for none. A row without its parent has no right depth,
-// so 11 is asked for only where 26 is found.
-fn parent_fault(t: &[u32], head: &[u16], next: &[u16], i: usize, r: Row) -> u32
-    requires { ⌜ rowWords * i ≤ length (now t) ⌝ }
-    requires { ⌜ Heads (placesAt (now t)) (now head) i ⌝ }
-    requires { ⌜ Linked (placesAt (now t)) (now next) i ⌝ }
-    ensures { λ o. ⌜ o ≡ faultBefore (now (t .entry)) i r ⌝ }
-{
-    if !has_wrong_depth(t, head, next, i, r) {
+    if !is_parent_fault(t, head, next, i, true, r) {
         return 0;
     }
-    if is_orphan(t, head, next, i, r) {
+    if is_parent_fault(t, head, next, i, false, r) {
         return 11;
     }
     26
@@ -130,7 +131,7 @@ fn noted(place: usize, n: usize, i: usize, fault: bool) -> usize
 pub(crate) fn parent_faults(t: &[u32], n: usize) -> ParentFaults
     requires { ⌜ rowWords * n ≤ length (now t) ⌝ }
     requires { ⌜ n ≤ rowLimit ⌝ }
-    ensures { λ o. ⌜ FirstFaults (now (t .entry)) n (o .orphan) (o .depth) ⌝ }
+    ensures { λ o. ⌜ FirstFaults (now (t .entry)) n (o .parent) (o .depth) ⌝ }
 {
     // 16 bits each: clearing them is most of a small table's cost.
     let mut head = [0u16; HASHES];
@@ -139,15 +140,14 @@ pub(crate) fn parent_faults(t: &[u32], n: usize) -> ParentFaults
     let mut i = 0;
     while i < n {
         let r = row_at(t, i);
-        let number = parent_fault(t, &head, &next, i, r);
+        let number = parent_number(t, &head, &next, i, r);
         if number == 11 {
-            return ParentFaults { orphan: i, depth };
+            return ParentFaults { parent: i, depth };
         }
         depth = noted(depth, n, i, number == 26);
         let h = place_hash(r.device, r.at);
-        next[i] = head[h];
-        head[h] = (i + 1) as u16;
+        link(&mut head, &mut next, h, i);
         i += 1;
     }
-    ParentFaults { orphan: n, depth }
+    ParentFaults { parent: n, depth }
 }

@@ -74,8 +74,8 @@ pub fn check_table(table: &[u32]) -> Answer
         return refused(10, order);
     }
     let parents = parent_faults(table, n);
-    if parents.orphan < n {
-        return refused(11, parents.orphan);
+    if parents.parent < n {
+        return refused(11, parents.parent);
     }
     if parents.depth < n {
         return refused(26, parents.depth);

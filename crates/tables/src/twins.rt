@@ -3,6 +3,7 @@ use super::Row;
 use super::links::HASHES;
 use super::links::MOST_STEPS;
 use super::links::hash_of;
+use super::links::link;
 use super::rows::ROW_WORDS;
 use super::rows::UP;
 use super::rows::is_twin;
@@ -142,8 +143,7 @@ pub(crate) fn first_twin(s: &[u32], t: &[u32], n: usize) -> usize
         if has_twin(s, t, &next, i, k, r) {
             return i;
         }
-        next[i] = head[h];
-        head[h] = (i + 1) as u16;
+        link(&mut head, &mut next, h, i);
         i += 1;
     }
     n

@@ -8,7 +8,8 @@ use denote.Ref.{now}
 use Rattle.base.proofs.Search.{none}
 use Rattle.tables.specs.Tables.{hasTwin}
 use Rattle.tables.specs.Links.{hashes, twinHash, twinsAt}
-use Rattle.tables.proofs.Linked.{Looking, look-begin, look-hit, look-more, head-le, last-is, twin-below, twin-found}
+use Rattle.tables.proofs.Linked.{Looking, look-begin, look-hit, look-more, head-le, last-is}
+use Rattle.tables.proofs.Siblings.{twin-below, twin-found}
 use Rattle.tables.proofs.twins.first_twin.Statement.{statement}
 use Rattle.tables.proofs.twins.first_twin.Tie as tie
 
@@ -17,37 +18,71 @@ first-twin-spec = tie.close (tie.spec
     (λ s t n head₀ next₀ i₀ head next i. Looking (twinsAt (s ++ t)) (hasTwin (s ++ t)) n head next i)
     (λ s t n head₀ next₀ i₀ head next i. n - i)
     (λ c. look-begin _ _ _)
-    (λ c κs. (c .before .before .before .before .pre .0, omega (arith, c .before .before .before .before .pre .1 .0, c .loop-test .taken)))
+    (λ c κs.
+    let s = c .before .before .before .before in
+    let loop-test = c .loop-test in
+    (s .pre .0, omega (arith, s .pre .1 .0, loop-test .taken)))
     (λ c κs. search needs)
     (λ c. omega (arith, twin-below (c .before .row-of .result), c .twin-hash .ensures))
-    (λ c. omega (arith, twin-below (c .before .row-of .result), c .twin-hash .ensures, c .before .before .before .loop .inv .heads .long))
     (λ c.
-    let below : c .twin-hash .result < hashes = omega (arith, twin-below (c .before .row-of .result), c .twin-hash .ensures) in
-    omega (arith, head-le _ _ _ (c .before .before .before .loop .inv .heads) _ below, c .before .before .loop-test .taken, c .before .before .before .before .before .before .pre .1 .1))
+    let row-of = c .before .row-of in
+    let twin-hash = c .twin-hash in
+    let loop = c .before .before .before .loop in
+    omega (arith, twin-below (row-of .result), twin-hash .ensures, loop .inv .heads .long))
+    (λ c.
+    let twin-hash = c .twin-hash in
+    let row-of = c .before .row-of in
+    let loop = c .before .before .before .loop in
+    let loop-test = c .before .before .loop-test in
+    let s = c .before .before .before .before .before .before in
+    let below : twin-hash .result < hashes = omega (arith, twin-below (row-of .result), twin-hash .ensures) in
+    omega (arith, head-le _ _ _ (loop .inv .heads) _ below, loop-test .taken, s .pre .1 .1))
     (λ c. search needs)
-    (λ c κs. (
-      c .before .before .before .before .before .before .before .pre .0,
+    (λ c κs.
+    let s = c .before .before .before .before .before .before .before in
+    let loop-test = c .before .before .before .loop-test in
+    let loop = c .before .before .before .before .loop in
+    let twin-hash = c .before .twin-hash in
+    let row-of = c .before .before .row-of in (
+      s .pre .0,
       (
-        omega (arith, c .before .before .before .before .before .before .before .pre .1 .0, c .before .before .before .loop-test .taken),
-        (c .before .before .before .before .loop .inv .linked, last-is _ _ _ (c .before .before .before .before .loop .inv .heads) (c .before .twin-hash .ensures) (twin-below (c .before .before .row-of .result))),
+        omega (arith, s .pre .1 .0, loop-test .taken),
+        (loop .inv .linked, last-is _ _ _ (loop .inv .heads) (twin-hash .ensures) (twin-below (row-of .result))),
       ),
     ))
     (λ c.
-    let u = now (c .before .before .before .before .before .before .before .before .before .args .s) ++ now (c .before .before .before .before .before .before .before .before .before .args .t) in
-    look-hit (c .before .before .before .before .before .before .loop .inv) (c .before .before .before .before .before .loop-test .taken) (sym (twin-found u _ _ (c .before .before .before .before .row-of .ensures) _ (c .before .has-twin .ensures)) ∙ c .if1 .taken))
-    (λ c. omega (arith, twin-below (c .before .before .before .before .row-of .result), c .before .before .before .twin-hash .ensures))
-    (λ c. omega (arith, twin-below (c .before .before .before .before .row-of .result), c .before .before .before .twin-hash .ensures, c .before .before .before .before .before .before .loop .inv .heads .long))
-    (λ c. omega (arith, c .before .before .before .before .before .loop-test .taken, c .before .before .before .before .before .before .before .before .before .pre .1 .1))
-    (λ c. omega (arith, c .before .before .before .before .before .loop-test .taken, c .before .before .before .before .before .before .before .before .before .pre .1 .1, c .before .before .before .before .before .before .loop .inv .linked .long))
-    (λ c. omega (arith, c .before .before .before .before .before .loop-test .taken))
-    (λ c. omega (arith, c .before .before .before .before .before .loop-test .taken, c .before .before .before .before .before .before .before .before .before .pre .1 .1))
-    (λ c. omega (arith, twin-below (c .before .before .before .before .row-of .result), c .before .before .before .twin-hash .ensures))
-    (λ c. omega (arith, twin-below (c .before .before .before .before .row-of .result), c .before .before .before .twin-hash .ensures, c .before .before .before .before .before .before .loop .inv .heads .long))
-    (λ c. omega (arith, c .before .before .before .before .before .loop-test .taken))
-    (λ c. omega (arith, c .before .before .before .before .before .loop-test .taken))
+    let s = c .before .before .before .before .before .before .before .before .before in
+    let loop = c .before .before .before .before .before .before .loop in
+    let loop-test = c .before .before .before .before .before .loop-test in
+    let row-of = c .before .before .before .before .row-of in
+    let has-twin = c .before .has-twin in
+    let if1 = c .if1 in
+    let u = now (s .args .s) ++ now (s .args .t) in
+    look-hit (loop .inv) (loop-test .taken) (sym (twin-found u _ _ (row-of .ensures) _ (has-twin .ensures)) ∙ if1 .taken))
+    (λ c. search needs)
+    (λ c. search needs)
+    (λ c κs.
+    let row-of = c .before .before .before .before .before .before .row-of in
+    let twin-hash = c .before .before .before .before .before .twin-hash in
+    let loop = c .before .before .before .before .before .before .before .before .loop in
+    let loop-test = c .before .before .before .before .before .before .before .loop-test in
+    let s = c .before .before .before .before .before .before .before .before .before .before .before in (
+      omega (arith, twin-below (row-of .result), twin-hash .ensures, loop .inv .heads .long),
+      (omega (arith, loop-test .taken, s .pre .1 .1, loop .inv .linked .long), (loop .inv .heads .long, loop .inv .linked .long)),
+    ))
+    (λ c. omega (arith, c .before .before .before .before .before .before .before .before .before .before .loop-test .taken))
+    (λ c. omega (arith, c .before .before .before .before .before .before .before .before .before .before .loop-test .taken))
     (λ c.
-    let u = now (c .before .before .before .before .before .before .before .before .before .args .s) ++ now (c .before .before .before .before .before .before .before .before .before .args .t) in
-    let below : c .before .before .before .twin-hash .result < hashes = omega (arith, twin-below (c .before .before .before .before .row-of .result), c .before .before .before .twin-hash .ensures) in
-    look-more (c .before .before .before .before .before .before .loop .inv) (c .before .before .before .before .before .loop-test .taken) (sym (twin-found u _ _ (c .before .before .before .before .row-of .ensures) _ (c .before .has-twin .ensures)) ∙ c .if1 .left) (c .before .before .before .before .before .before .before .before .before .pre .1 .1)
-    (c .before .before .before .twin-hash .ensures ∙ ap twinHash (c .before .before .before .before .row-of .ensures)) below)
+    let s = c .before .before .before .before .before .before .before .before .before .before .before .before .before .before in
+    let twin-hash = c .before .before .before .before .before .before .before .before .twin-hash in
+    let row-of = c .before .before .before .before .before .before .before .before .before .row-of in
+    let loop = c .before .before .before .before .before .before .before .before .before .before .before .loop in
+    let loop-test = c .before .before .before .before .before .before .before .before .before .before .loop-test in
+    let has-twin = c .before .before .before .before .before .before .has-twin in
+    let if1 = c .before .before .before .before .before .if1 in
+    let link = c .before .before .link in
+    let u = now (s .args .s) ++ now (s .args .t) in
+    let below : twin-hash .result < hashes = omega (arith, twin-below (row-of .result), twin-hash .ensures) in
+    look-more (loop .inv) (loop-test .taken) (sym (twin-found u _ _ (row-of .ensures) _ (has-twin .ensures)) ∙ if1 .left) (s .pre .1 .1)
+    (twin-hash .ensures ∙ ap twinHash (row-of .ensures)) below (link .ensures .0) (link .ensures .1))
     (λ c. none _ _ _ (c .before .loop .inv .passed) (c .loop-test .left)))

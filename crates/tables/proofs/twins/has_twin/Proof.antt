@@ -7,7 +7,8 @@ use denote.Ref.{now}
 use Rattle.tables.specs.Words.{rowAt}
 use Rattle.tables.specs.Tables.{isTwin}
 use Rattle.tables.specs.Links.{twinHash, twinsAt}
-use Rattle.tables.proofs.Linked.{Seeks, seek-begin, seek-next, seek-falls, seek-hit, seek-rest, seek-end, same-hash}
+use Rattle.tables.proofs.Linked.{Seeks, seek-begin, seek-next, seek-falls, seek-hit, seek-rest, seek-end}
+use Rattle.tables.proofs.Siblings.{same-hash}
 use Rattle.tables.proofs.twins.has_twin.Statement.{statement}
 use Rattle.tables.proofs.twins.has_twin.Tie as tie
 
@@ -16,22 +17,56 @@ has-twin-spec = tie.close (tie.spec
     (λ s t next i k r at₀ left₀ at left. Seeks (twinsAt (s ++ t)) (λ j. isTwin r (rowAt (s ++ t) j)) (twinHash r) i at)
     (λ s t next i k r at₀ left₀ at left. at)
     (λ c.
-    let a = c .before .before .before .args in
-    seek-begin (λ j e. same-hash (a .r) (rowAt (now (a .s) ++ now (a .t)) j) e) _ (c .before .before .before .pre .1 .1 .1))
-    (λ c κs. (c .before .before .before .before .before .before .pre .0, omega (arith, c .before .before .before .before .before .before .pre .1 .0, c .before .before .loop .inv .within)))
+    let s = c .before .before .before in
+    seek-begin (λ j e. same-hash (s .args .r) (rowAt (now (s .args .s) ++ now (s .args .t)) j) e) _ (s .pre .1 .1 .1))
+    (λ c κs.
+    let s = c .before .before .before .before .before .before in
+    let loop = c .before .before .loop in
+    (s .pre .0, omega (arith, s .pre .1 .0, loop .inv .within)))
     (λ c. c .has-twin-before .ensures ∙ seek-rest (c .before .before .before .loop .inv))
     (λ c. omega (arith, c .before .loop-test .taken))
-    (λ c κs. (c .before .before .before .before .before .before .pre .0, omega (arith, c .before .before .before .before .before .before .pre .1 .0, c .before .before .loop .inv .within, c .before .loop-test .taken)))
+    (λ c κs.
+    let s = c .before .before .before .before .before .before in
+    let loop = c .before .before .loop in
+    let loop-test = c .before .loop-test in
+    (s .pre .0, omega (arith, s .pre .1 .0, loop .inv .within, loop-test .taken)))
     (λ c κs. search needs)
     (λ c.
-    seek-hit (c .before .before .before .before .before .loop .inv) (c .before .before .before .before .loop-test .taken)
-    (ap (isTwin (c .before .before .before .before .before .before .before .before .before .args .r)) (sym (c .before .before .row-of .ensures)) ∙ sym (c .before .is-twin .ensures) ∙ c .if2 .taken))
-    (λ c. omega (arith, c .before .before .before .before .before .loop .inv .within, c .before .before .before .before .before .before .before .before .before .pre .1 .1 .0 .fits))
-    (λ c. omega (arith, c .before .before .before .before .before .before .loop .inv .within, c .before .before .before .before .before .before .before .before .before .before .pre .1 .1 .0 .fits, c .before .before .before .before .before .before .before .before .before .before .pre .1 .1 .0 .long, c .before .before .before .before .before .loop-test .taken))
-    (λ c. omega (arith, seek-falls (c .before .before .before .before .before .before .loop .inv) (c .before .before .before .before .before .before .before .before .before .before .pre .1 .1 .0) (c .before .before .before .before .before .loop-test .taken), c .before .before .before .before .before .before .loop .inv .within, c .before .before .before .before .before .before .before .before .before .before .pre .1 .1 .0 .fits))
-    (λ c. omega (arith, c .before .before .before .before .if1 .left))
-    (λ c. seek-falls (c .before .before .before .before .before .before .loop .inv) (c .before .before .before .before .before .before .before .before .before .before .pre .1 .1 .0) (c .before .before .before .before .before .loop-test .taken))
+    let loop = c .before .before .before .before .before .loop in
+    let loop-test = c .before .before .before .before .loop-test in
+    let s = c .before .before .before .before .before .before .before .before .before in
+    let row-of = c .before .before .row-of in
+    let is-twin = c .before .is-twin in
+    let if2 = c .if2 in
+    seek-hit (loop .inv) (loop-test .taken)
+    (ap (isTwin (s .args .r)) (sym (row-of .ensures)) ∙ sym (is-twin .ensures) ∙ if2 .taken))
     (λ c.
-    seek-next (c .before .before .before .before .before .before .loop .inv) (c .before .before .before .before .before .before .before .before .before .before .pre .1 .1 .0) (c .before .before .before .before .before .loop-test .taken)
-    (ap (isTwin (c .before .before .before .before .before .before .before .before .before .before .args .r)) (sym (c .before .before .before .row-of .ensures)) ∙ sym (c .before .before .is-twin .ensures) ∙ c .before .if2 .left))
+    let loop = c .before .before .before .before .before .loop in
+    let s = c .before .before .before .before .before .before .before .before .before in
+    omega (arith, loop .inv .within, s .pre .1 .1 .0 .fits))
+    (λ c.
+    let loop = c .before .before .before .before .before .before .loop in
+    let s = c .before .before .before .before .before .before .before .before .before .before in
+    let loop-test = c .before .before .before .before .before .loop-test in
+    omega (arith, loop .inv .within, s .pre .1 .1 .0 .fits, s .pre .1 .1 .0 .long, loop-test .taken))
+    (λ c.
+    let loop = c .before .before .before .before .before .before .loop in
+    let s = c .before .before .before .before .before .before .before .before .before .before in
+    let loop-test = c .before .before .before .before .before .loop-test in
+    omega (arith, seek-falls (loop .inv) (s .pre .1 .1 .0) (loop-test .taken), loop .inv .within, s .pre .1 .1 .0 .fits))
+    (λ c. omega (arith, c .before .before .before .before .if1 .left))
+    (λ c.
+    let loop = c .before .before .before .before .before .before .loop in
+    let s = c .before .before .before .before .before .before .before .before .before .before in
+    let loop-test = c .before .before .before .before .before .loop-test in
+    seek-falls (loop .inv) (s .pre .1 .1 .0) (loop-test .taken))
+    (λ c.
+    let loop = c .before .before .before .before .before .before .loop in
+    let s = c .before .before .before .before .before .before .before .before .before .before in
+    let loop-test = c .before .before .before .before .before .loop-test in
+    let row-of = c .before .before .before .row-of in
+    let is-twin = c .before .before .is-twin in
+    let if2 = c .before .if2 in
+    seek-next (loop .inv) (s .pre .1 .1 .0) (loop-test .taken)
+    (ap (isTwin (s .args .r)) (sym (row-of .ensures)) ∙ sym (is-twin .ensures) ∙ if2 .left))
     (λ c. seek-end (c .before .loop .inv) (c .loop-test .left)))

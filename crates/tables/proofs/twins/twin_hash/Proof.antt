@@ -2,7 +2,7 @@
 use mathlib.Core.Path.{_∙_}
 use mathlib.Core.Logic.{⊎-elim}
 use borrow.Author.Needs.{needs}
-use Rattle.tables.proofs.Linked.{root-device, child-device, twin-is}
+use Rattle.tables.proofs.Siblings.{root-device, child-device, twin-is}
 use Rattle.tables.proofs.twins.twin_hash.Statement.{statement}
 use Rattle.tables.proofs.twins.twin_hash.Tie as tie
 
