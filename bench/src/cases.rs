@@ -4,8 +4,9 @@ use gabzeril_tests::checker::{rows_of, words_of, POOL, ROW_WORDS, RULE};
 
 use crate::calls::Call;
 use crate::inputs::{
-    children_in_one_chain, deep, devices, early, gathered, late, names_in_one_chain, one_device, path, roots,
-    roots_in_one_chain, with_no_parent, with_wrong_depth, A, B, C,
+    all_in_one_chain, children_in_one_chain, deep, devices, early, gathered, late, names_in_one_chain,
+    one_device, path, places_in_one_chain, roots, roots_in_one_chain, with_no_parent, with_wrong_depth,
+    with_wrong_depths, A, B, C,
 };
 
 pub struct Case {
@@ -44,6 +45,8 @@ const PATH: &str = "one path of rows";
 pub const A_TRUE: &str = "rule A true, devices of three rows";
 pub const B_TRUE: &str = "rule B true, devices of three rows";
 pub const C_TRUE: &str = "rule C true, one device";
+/// All rows have one hash in the checks of parents and depths.
+const PLACES: &str = "places in one chain";
 /// Each variable has its own comparison: a reading goes deeper with the last row only.
 const DEEP: &str = "deep rule, roots";
 /// Every comparison uses the innermost variable: a reading goes down to it with any row.
@@ -82,7 +85,20 @@ pub fn all() -> Vec<Case> {
     for rows in [512, 1_024] {
         refused_at_the_last_row(&mut cases, rows);
     }
+    for rows in [512, 1_024] {
+        on_one_chain(&mut cases, rows);
+    }
     cases
+}
+
+/// The longest that the checks of parents and depths take.
+fn on_one_chain(cases: &mut Vec<Case>, rows: u32) {
+    let table = places_in_one_chain(rows);
+    let mut add = |table: Vec<u32>, on: String| cases.push(case(Call::CheckTable { table }, on, rows));
+    add(table.clone(), PLACES.into());
+    add(with_wrong_depth(&table), format!("{PLACES}, refused with 26 at the last row"));
+    add(with_wrong_depths(&table), format!("{PLACES}, refused with 26, all children wrong"));
+    add(all_in_one_chain(rows), "places and siblings in one chain".into());
 }
 
 /// The parent's depth is looked at for every row, and each of these tables is refused by its last.

@@ -1,6 +1,7 @@
 //! Rules and pools of the benchmark.
 
 use gabzeril_tests::checker::{rows_of, words_of, Row, ENTRY_WORDS, MOST_NAME, MOST_NESTED, MOST_VALUE};
+use gabzeril_tests::generate::{ats_of_hash, library_hash as hash, twin_hash, STEPS};
 
 /// Rule A of the contract: each device is client or server.
 pub const A: [u32; 24] = [5, 1, 0, 1, 3, 2, 4, 0, 6, 3, 1, 2, 7, 1, 1, 1, 6, 5, 1, 2, 7, 1, 1, 2];
@@ -82,6 +83,14 @@ pub fn with_wrong_depth(table: &[u32]) -> Vec<u32> {
     with_last_row(table, |row| row.deep += 1)
 }
 
+/// Refused with 26 at the first child: each depth but a root's is wrong, since it is not one more than that
+/// of the parent, but two.
+pub fn with_wrong_depths(table: &[u32]) -> Vec<u32> {
+    let mut rows = rows_of(table);
+    rows.iter_mut().for_each(|row| row.deep *= 2);
+    words_of(&rows)
+}
+
 /// Refused with 11 at the last row, which names itself as its parent.
 pub fn with_no_parent(table: &[u32]) -> Vec<u32> {
     with_last_row(table, |row| row.up = row.at)
@@ -148,16 +157,39 @@ pub fn children_in_one_chain(rows: u32) -> Vec<u32> {
     words_of(&table)
 }
 
+/// Devices of a root and rows under it, all of whose places have equal hashes in checks 11 and 26. Where a
+/// device has rows enough, the parent is the nearest row that the library does not find by its steps: it
+/// compares all before that one.
+pub fn places_in_one_chain(rows: u32) -> Vec<u32> {
+    let mut table: Vec<Row> = vec![];
+    for device in 1.. {
+        let start = table.len();
+        for at in ats_of_hash(device, 0) {
+            if table.len() == rows as usize {
+                return words_of(&table);
+            }
+            let (own, value) = (&table[start..], table.len() as u32);
+            let parent = own.get(own.len().saturating_sub(STEPS + 1));
+            table.push(parent.map_or(root(device, at, 1, value), |parent| under(parent, at, 2, value)));
+        }
+    }
+    words_of(&table)
+}
+
+/// The same with equal hashes in check 12 too.
+pub fn all_in_one_chain(rows: u32) -> Vec<u32> {
+    let mut table = rows_of(&places_in_one_chain(rows));
+    for row in &mut table {
+        // Far enough apart that none is equal to that of a row before.
+        let with_value = |value| Row { value, ..*row };
+        *row = (row.value * 4_096..).map(with_value).find(|row| twin_hash(row) == 0).expect("a value");
+    }
+    words_of(&table)
+}
+
 fn roots_of(values: impl Iterator<Item = u32>) -> Vec<u32> {
     let rows: Vec<Row> = (1..).zip(values).map(|(at, value)| root(1, at, 1, value)).collect();
     words_of(&rows)
-}
-
-/// `hash_of` in crates/tables/src/chains.rt.
-fn hash(device: u32, place: u32, name: u32, value: u32) -> u64 {
-    let [device, place, name, value] = [device, place, name, value].map(u64::from);
-    (device * 947_282_241 + place * 1_870_821_409 + name * 669_926_575 + value * 700_227_275) % (1 << 32)
-        / (1 << 22)
 }
 
 /// The variable of the innermost quantifier where as many as may be stand around one another.
@@ -219,6 +251,7 @@ mod tests {
     use super::*;
     use gabzeril_tests::answer::Answer;
     use gabzeril_tests::checker::{check_rule, check_table, verdict};
+    use gabzeril_tests::generate::place_hash;
 
     #[test]
     fn all_are_accepted() {
@@ -232,21 +265,34 @@ mod tests {
                 roots_in_one_chain(rows),
                 names_in_one_chain(rows),
                 path(rows),
+                places_in_one_chain(rows),
+                all_in_one_chain(rows),
             ];
             for table in tables {
                 assert_eq!(check_table(&table), Answer::Done(rows as usize));
             }
-            for table in [devices(rows, 1), one_device(rows), path(rows)] {
+            for table in [devices(rows, 1), one_device(rows), path(rows), places_in_one_chain(rows)] {
                 let last = rows as usize - 1;
                 assert_eq!(check_table(&with_wrong_depth(&table)), Answer::refused(26, last));
                 assert_eq!(check_table(&with_no_parent(&table)), Answer::refused(11, last));
             }
+            let table = with_wrong_depths(&places_in_one_chain(rows));
+            assert_eq!(check_table(&table), Answer::refused(26, 1));
             assert_eq!(check_rule(&deep(rows)), Answer::Done(3 * MOST_NESTED - 1));
             assert_eq!(check_rule(&late(rows)), Answer::Done(4 * MOST_NESTED - 2));
         }
         for rule in [&A[..], &B, &C, &early()] {
             assert_eq!(check_rule(rule), Answer::Done(rule.len() / 4));
         }
+    }
+
+    #[test]
+    fn chains_are_as_described() {
+        let table = rows_of(&all_in_one_chain(1_024));
+        assert!(table.iter().all(|row| place_hash(row.device, row.at) == 0 && twin_hash(row) == 0));
+        let wrong = rows_of(&with_wrong_depths(&places_in_one_chain(1_024)));
+        let parent = |row: &Row| wrong.iter().find(|parent| parent.is_parent_of(row));
+        assert!(wrong.iter().all(|row| parent(row).is_none_or(|parent| row.deep == parent.deep + 2)));
     }
 
     #[test]

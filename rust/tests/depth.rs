@@ -230,7 +230,7 @@ fn sent(rule: &[u32], device: &[u32], mode: u32) -> Vec<u32> {
 }
 
 /// Notes where the first wrong depth is, and which faults stand beside it.
-fn note(case: &mut Case, table: &DepthTable) {
+fn note(case: &mut Case, table: &KnownTable) {
     assert_eq!(check_table(&table.words), table.check(), "{table:?}");
     let Some(wrong) = table.place_of(26) else {
         return;

@@ -12,7 +12,7 @@ use Rattle.base.proofs.Search.{Passed, begin, hit, miss, none, at-first, some-a
 use Rattle.tables.specs.Words.{rowAt}
 use Rattle.tables.specs.Tables.{root, isParent, isDeeper, noParent, wrongDepth}
 use Rattle.tables.specs.declared.Row.{Row}
-use Rattle.tables.specs.Links.{hashes, placeHash, fitsParent, parentFault, parentNumber, notedOf}
+use Rattle.tables.specs.Links.{hashes, placeHash, fitsParent, parentNumber, notedOf}
 use Rattle.tables.proofs.Linked.{hash-below}
 
 -- ---- a first place that is noted while a search goes on: none so far, or found
@@ -65,33 +65,16 @@ not-parent d r p h = sym (go (eqb (p .device) (r .device)) (eqb (p .at) (r .up))
     go false b e = refl
 
 -- ---- the faults of row i, read as r
-module _ (t : List ℕ) (i : ℕ) (r : Row) (r-is : r ≡ rowAt t i) (d : Bool) where
-  pub root-fault : root r ≡ true → (d && not (eqb (r .deep) 0)) ≡ parentFault d t i
-  unfolding parentFault
-  root-fault e = go d (root (rowAt t i)) (sym (ap (λ (x : Row). root x) r-is) ∙ e)
-    where
-      same : not (eqb (r .deep) 0) ≡ not (eqb (rowAt t i .deep) 0)
-      same = ap (λ (x : Row). not (eqb (x .deep) 0)) r-is
+module _ (t : List ℕ) (i : ℕ) (r : Row) (r-is : r ≡ rowAt t i) where
+  pub wrong-is : wrongDepth t i ≡ not (cond (root r) (eqb (r .deep) 0) (some (λ j. fitsParent true r (rowAt t j)) i))
+  unfolding fitsParent
+  wrong-is = sym (ap (λ (x : Row). not (cond (root x) (eqb (x .deep) 0) (some (λ j. fitsParent true x (rowAt t j)) i))) r-is)
 
-      go : (d o : Bool) → o ≡ true → (d && not (eqb (r .deep) 0))
-          ≡ cond d (not (cond o (eqb (rowAt t i .deep) 0) (some (λ j. isParent (rowAt t i) (rowAt t j) && isDeeper (rowAt t i) (rowAt t j)) i)))
-          (not o && not (some (λ j. isParent (rowAt t i) (rowAt t j)) i))
-      go true true e = same
-      go false true e = refl
-      go d false e = absurd (true≢false (sym e))
-
-  pub child-fault : root r ≡ false → (b : Bool) → b ≡ some (λ j. fitsParent d r (rowAt t j)) i → not b ≡ parentFault d t i
-  unfolding parentFault fitsParent
-  child-fault e b b-is =
-      ap not (b-is ∙ ap (λ (x : Row). some (λ j. isParent x (rowAt t j) && (not d || isDeeper x (rowAt t j))) i) r-is)
-      ∙ go d (root (rowAt t i)) (sym (ap (λ (x : Row). root x) r-is) ∙ e)
-    where
-      go : (d o : Bool) → o ≡ false → not (some (λ j. isParent (rowAt t i) (rowAt t j) && (not d || isDeeper (rowAt t i) (rowAt t j))) i)
-          ≡ cond d (not (cond o (eqb (rowAt t i .deep) 0) (some (λ j. isParent (rowAt t i) (rowAt t j) && isDeeper (rowAt t i) (rowAt t j)) i)))
-          (not o && not (some (λ j. isParent (rowAt t i) (rowAt t j)) i))
-      go true false e = refl
-      go false false e = ap (λ (p : ℕ → Bool). not (some p i)) (fun-ext (λ j. and-true (isParent (rowAt t i) (rowAt t j))))
-      go d true e = absurd (true≢false e)
+  pub parent-is : noParent t i ≡ (not (root r) && not (some (λ j. fitsParent false r (rowAt t j)) i))
+  unfolding fitsParent
+  parent-is =
+      sym (ap (λ (x : Row). not (root x) && not (some (λ j. fitsParent false x (rowAt t j)) i)) r-is
+      ∙ ap (λ (p : ℕ → Bool). not (root (rowAt t i)) && not (some p i)) (fun-ext (λ j. and-true (isParent (rowAt t i) (rowAt t j)))))
 
 -- a row without its parent has no right depth
 pub depth-parent : (t : List ℕ) (i : ℕ) → wrongDepth t i ≡ false → noParent t i ≡ false

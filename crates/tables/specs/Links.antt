@@ -50,11 +50,7 @@ placesAt t i = placeHash (rowAt t i .device) (rowAt t i .at)
 unfoldable pub fitsParent : Bool → Row → Row → Bool
 fitsParent deeper r p = isParent r p && (not deeper || isDeeper r p)
 
--- row i has fault 26, or else fault 11
-unfoldable pub parentFault : Bool → List ℕ → ℕ → Bool
-parentFault deeper t i = cond deeper (wrongDepth t i) (noParent t i)
-
--- the number of its fault, 11 before 26; 0 for none
+-- the number of the fault of row i, 11 before 26; 0 for none
 unfoldable pub parentNumber : List ℕ → ℕ → ℕ
 parentNumber t i = cond (wrongDepth t i) (cond (noParent t i) 11 26) 0
 

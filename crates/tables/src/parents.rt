@@ -16,7 +16,7 @@ ghost use lib.ListN.{length};
 ghost use Rattle.base.specs.Search.{some};
 ghost use Rattle.tables.specs.Words.{rowWords, rowAt};
 ghost use Rattle.tables.specs.Tables.{rowLimit};
-ghost use Rattle.tables.specs.Links.{placeHash, placesAt, fitsParent, parentFault, parentNumber, notedOf, FirstFaults, Linked, Heads};
+ghost use Rattle.tables.specs.Links.{placeHash, placesAt, fitsParent, parentNumber, notedOf, FirstFaults, Linked, Heads};
 
 // The first row without its parent; where there is none, also the first whose depth is wrong. The number of rows stands for none.
 pub(crate) struct ParentFaults {
@@ -87,34 +87,27 @@ fn has_parent(t: &[u32], head: &[u16], next: &[u16], i: usize, deeper: bool, r: 
     false
 }
 
-// Whether row i, which is r, has fault 26, or else fault 11. A root has no parent, and depth 0.
-fn is_parent_fault(t: &[u32], head: &[u16], next: &[u16], i: usize, deeper: bool, r: Row) -> bool
-    requires { ⌜ (rowWords * i ≤ length (now t)) × (r ≡ rowAt (now t) i) ⌝ }
-    requires { ⌜ Heads (placesAt (now t)) (now head) i ⌝ }
-    requires { ⌜ Linked (placesAt (now t)) (now next) i ⌝ }
-    ensures { λ o. ⌜ o ≡ parentFault deeper (now (t .entry)) i ⌝ }
-{
-    if r.up == 0 {
-        return deeper & (r.deep != 0);
-    }
-    !has_parent(t, head, next, i, deeper, r)
-}
-
-// The number of the fault of row i: 11 before 26; 0 for none. A row without its parent has no right depth, so 11 is asked for only
-// where 26 is found.
+// The number of the fault of row i, which is r: 11 before 26; 0 for none. A root has no parent, and depth 0. A row without its parent
+// has no right depth, so that any parent is looked for only where the one with the depth due is missing.
 fn parent_number(t: &[u32], head: &[u16], next: &[u16], i: usize, r: Row) -> u32
     requires { ⌜ (rowWords * i ≤ length (now t)) × (r ≡ rowAt (now t) i) ⌝ }
     requires { ⌜ Heads (placesAt (now t)) (now head) i ⌝ }
     requires { ⌜ Linked (placesAt (now t)) (now next) i ⌝ }
     ensures { λ o. ⌜ o ≡ parentNumber (now (t .entry)) i ⌝ }
 {
-    if !is_parent_fault(t, head, next, i, true, r) {
+    if r.up == 0 {
+        if r.deep == 0 {
+            return 0;
+        }
+        return 26;
+    }
+    if has_parent(t, head, next, i, true, r) {
         return 0;
     }
-    if is_parent_fault(t, head, next, i, false, r) {
-        return 11;
+    if has_parent(t, head, next, i, false, r) {
+        return 26;
     }
-    26
+    11
 }
 
 // The first place that is noted: n is none so far.

@@ -44,7 +44,7 @@ impl Row {
     }
 
     /// All roots of the table are siblings, whatever their devices.
-    fn is_sibling_of(&self, row: &Row) -> bool {
+    pub fn is_sibling_of(&self, row: &Row) -> bool {
         self.up == row.up && (self.is_root() || self.device == row.device)
     }
 }

@@ -1,35 +1,13 @@
-//! Tables with wrong depths, alone and beside each other fault, that tell what their check must answer.
+//! Tables with wrong depths, alone and beside each other fault.
 
 use super::depths::{change_row, make_wrong, row_at};
-use crate::answer::Answer;
+use super::known_table::KnownTable;
 use crate::checker::{rows_of, Row, MOST_NAME, MOST_VALUE, ROW_WORDS};
 use crate::random::Random;
 
-#[derive(Clone, Debug)]
-pub struct DepthTable {
-    pub words: Vec<u32>,
-    /// The faults put in, number and place, the one that is tested first in front.
-    pub faults: Vec<(u32, usize)>,
-}
-
-impl DepthTable {
-    /// What the table's check must answer, by the way in which it was made.
-    pub fn check(&self) -> Answer {
-        match self.faults.first() {
-            Some(&(number, place)) => Answer::refused(number, place),
-            None => Answer::Done(self.words.len() / ROW_WORDS),
-        }
-    }
-
-    /// The place of a fault, if it was put in.
-    pub fn place_of(&self, number: u32) -> Option<usize> {
-        self.faults.iter().find(|fault| fault.0 == number).map(|fault| fault.1)
-    }
-}
-
 /// An accepted table, most often with wrong depths put in, and at times with other faults.
-pub fn damaged_depths(random: &mut Random, accepted: &[u32]) -> DepthTable {
-    let mut table = DepthTable { words: accepted.to_vec(), faults: vec![] };
+pub fn damaged_depths(random: &mut Random, accepted: &[u32]) -> KnownTable {
+    let mut table = KnownTable::accepted(accepted);
     let beside = match random.below(10) {
         0..=5 => vec![],
         6..=8 => vec![random.pick(&[12, 11, 10, 9, 8])],
@@ -45,7 +23,7 @@ pub fn damaged_depths(random: &mut Random, accepted: &[u32]) -> DepthTable {
     table
 }
 
-impl DepthTable {
+impl KnownTable {
     /// Puts in this fault, unless no row can have it.
     fn put(&mut self, random: &mut Random, number: u32) {
         let place = match number {
@@ -58,7 +36,7 @@ impl DepthTable {
             26 => self.put_wrong_depths(random),
             _ => self.put_in_row(random, number),
         };
-        self.faults.splice(0..0, place.map(|place| (number, place)));
+        self.put_in_front(number, place);
     }
 
     /// Several rows or one. Those before the first keep their depths, so that it is the one at fault.

@@ -1,14 +1,18 @@
 //! Random rules, pools and files, accepted and damaged.
 
 mod chains;
+mod collisions;
 mod cost;
+mod damaged_collisions;
 mod damaged_depths;
 mod damaged_file;
 mod damaged_rule;
 mod damaged_table;
 mod depths;
 mod faults;
+mod known_table;
 mod lengths;
+mod library_hash;
 mod nested;
 mod pools;
 mod rules;
@@ -17,12 +21,16 @@ mod tests;
 mod together;
 mod vocabulary;
 
+pub use collisions::{colliding_rows, two_colliding_tables};
 pub use cost::{files_cost, reading_cost, verdict_cost};
-pub use damaged_depths::{damaged_depths, DepthTable};
+pub use damaged_collisions::damaged_collisions;
+pub use damaged_depths::damaged_depths;
 pub use damaged_file::{damaged_file, file_of_words};
 pub use damaged_rule::{any_rule, damage_rule, damaged_rule, RULE_FAULTS};
 pub use damaged_table::{any_table, damage_table, damaged_table, TABLE_FAULTS};
+pub use known_table::KnownTable;
 pub use lengths::{lengths_around, mostly_enough, one_length_around, some_lengths_around, words_sent};
+pub use library_hash::{ats_of_hash, library_hash, place_hash, twin_hash, STEPS};
 pub use nested::{nested_rule, NestedRule};
 pub use pools::{pool, pool_of, PoolShape};
 pub use rules::{rule, rule_of, RuleShape};

@@ -1,8 +1,9 @@
 //! What the generators promise.
 
 use super::*;
+use crate::answer::Answer;
 use crate::checker::{
-    accepted_rule, accepted_table, check_rule, check_table, part, rows_of, Entry, MOST_NESTED,
+    accepted_rule, accepted_table, check_rule, check_table, part, rows_of, Entry, MOST_NESTED, ROW_WORDS,
 };
 use crate::random::Random;
 
@@ -73,6 +74,27 @@ fn damaged_depths_are_as_they_tell() {
         assert_eq!(check_table(&table).number(), 0, "seed {seed}: {table:?}");
         let damaged = damaged_depths(random, &table);
         assert_eq!(check_table(&damaged.words), damaged.check(), "seed {seed}: {damaged:?}");
+    }
+}
+
+#[test]
+fn collisions_are_as_they_tell() {
+    for seed in 0..2_000 {
+        let random = &mut Random::new(seed);
+        let table = colliding_rows(random);
+        let rows = accepted_table(&table).expect("an accepted table");
+        assert!(rows.len() >= 10, "seed {seed}: {table:?}");
+        let hashes = rows.iter().map(|row| place_hash(row.device, row.at));
+        let shared = hashes.clone().filter(|&hash| hashes.clone().next() == Some(hash)).count();
+        assert!(2 * shared >= rows.len(), "seed {seed}: {shared} rows of one hash: {table:?}");
+        let damaged = damaged_collisions(random, &table);
+        assert_eq!(check_table(&damaged.words), damaged.check(), "seed {seed}: {damaged:?}");
+        let (joined, cut) = two_colliding_tables(random);
+        assert_eq!(check_table(&joined.words), joined.check(), "seed {seed}: {joined:?}");
+        let (first, second) = joined.words.split_at(cut * ROW_WORDS);
+        for half in [first, second] {
+            assert_eq!(check_table(half), Answer::Done(half.len() / ROW_WORDS), "seed {seed}: {half:?}");
+        }
     }
 }
 
