@@ -4,6 +4,8 @@
 use gabzeril_tests::checker::{check_table, rows_of, Row, POOL, ROW_WORDS};
 use gabzeril_tests::compare::{calls, run, Case};
 use gabzeril_tests::generate::*;
+use std::fs;
+use std::path::Path;
 
 /// Every root has a child above it; some root has a child below another root.
 const RULES: [&[u32]; 2] =
@@ -29,6 +31,17 @@ const BETWEEN: &str = "26, the parent is another row";
 const OTHER_DEVICE: &str = "11, though a row of another device has that at and hash";
 const BEHIND: &str = "11 behind 26";
 const NOT_BEHIND: &str = "11 before 26, or in the same row";
+
+/// With another formula the tables here would have nothing rare, and no comparison would tell.
+#[test]
+fn the_hash_is_the_librarys() {
+    let source = Path::new(env!("CARGO_MANIFEST_DIR")).join("../crates/tables/src/links.rt");
+    let source = fs::read_to_string(source).expect("the library's source");
+    for factor in FACTORS {
+        assert!(source.contains(&format!(" * {factor}")), "the library does not multiply by {factor}");
+    }
+    assert!(source.contains(&format!("MOST_STEPS: usize = {STEPS};")), "the library takes other steps");
+}
 
 /// Which fault is found, and where, is also told by the way in which the table was made.
 #[test]

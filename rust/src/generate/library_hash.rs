@@ -9,14 +9,16 @@ pub const STEPS: usize = 8;
 /// The number of hashes.
 pub const HASHES: u32 = 1 << 10;
 
+/// What the words of a row are multiplied by.
+pub const FACTORS: [u32; 4] = [947_282_241, 1_870_821_409, 669_926_575, 700_227_275];
+
 /// The library's formula. The contract does not tell it, and the checker does not use it: it is known only so
 /// that the library's rare way is run. Where the library's own becomes another, this one has to follow, or
 /// tables made with it have nothing rare.
 pub fn library_hash(device: u32, place: u32, name: u32, value: u32) -> u32 {
     let words = [device, place, name, value].into_iter();
-    let factors = [947_282_241, 1_870_821_409, 669_926_575, 700_227_275];
     let sum =
-        words.zip(factors).fold(0, |sum: u32, (word, factor)| sum.wrapping_add(word.wrapping_mul(factor)));
+        words.zip(FACTORS).fold(0, |sum: u32, (word, factor)| sum.wrapping_add(word.wrapping_mul(factor)));
     sum / (u32::MAX / HASHES + 1)
 }
 

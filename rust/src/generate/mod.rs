@@ -30,7 +30,7 @@ pub use damaged_rule::{any_rule, damage_rule, damaged_rule, RULE_FAULTS};
 pub use damaged_table::{any_table, damage_table, damaged_table, TABLE_FAULTS};
 pub use known_table::KnownTable;
 pub use lengths::{lengths_around, mostly_enough, one_length_around, some_lengths_around, words_sent};
-pub use library_hash::{ats_of_hash, library_hash, place_hash, twin_hash, STEPS};
+pub use library_hash::{ats_of_hash, library_hash, place_hash, twin_hash, FACTORS, STEPS};
 pub use nested::{nested_rule, NestedRule};
 pub use pools::{pool, pool_of, PoolShape};
 pub use rules::{rule, rule_of, RuleShape};
