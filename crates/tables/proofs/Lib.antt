@@ -15,6 +15,7 @@ pub mod Scanned
 pub mod OrderedRows
 pub mod Proper
 pub mod InPlace
+pub mod JoinedTables
 pub mod AcceptedRule
 pub mod Calls
 pub mod Digits

@@ -1,12 +1,13 @@
 -- 01, Parts and joining: joining puts a table after another whose last device is smaller. Assumes nothing.
 use Prim.Native.Nat.{ℕ, _-_}
-use mathlib.Core.Bool.{Bool, _||_}
+use mathlib.Core.Path.{_≡_}
+use mathlib.Core.Bool.{Bool, true, _||_}
 use mathlib.Core.List.{List, _++_}
 use lib.ListN.{length, take}
 use lib.Dec.{ltb, leb, eqb}
-use Rattle.tables.specs.Answers.{andThen, unless, unlessAny, output}
+use Rattle.tables.specs.Answers.{isDone, andThen, unless, unlessAny, output}
 use Rattle.tables.specs.Words.{rowAt, rowCount}
-use Rattle.tables.specs.Tables.{rowFault, tableLength, checkTable}
+use Rattle.tables.specs.Tables.{rowFault, tableLength, checkTable, acceptedTable}
 use Rattle.tables.specs.declared.Answer.{Answer}
 use Rattle.tables.specs.declared.Answer.the-variants.{Done}
 
@@ -34,3 +35,7 @@ joinAnswer pool used t = unless (leb used (length pool)) 8 (joinTables (take use
 -- the pool after it: the joined table and what stood past it, or as it was
 unfoldable pub joinPool : List ℕ → ℕ → List ℕ → List ℕ
 joinPool pool used t = output (joinAnswer pool used t) (take used pool ++ t) pool
+
+-- the claim: an accepted joining leaves an accepted table. 9, 10, 11 and 26 can't come up in it, so they are not tested
+abbrev pub JoinedAccepted : Type 0
+JoinedAccepted = (s t : List ℕ) (room : ℕ) → isDone (joinTables s t room) ≡ true → acceptedTable (s ++ t) ≡ true
