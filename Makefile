@@ -8,7 +8,7 @@
 #   make examples             build examples/ against the archive
 #   make check-examples       the same with sanitizers, run and compared
 #   make check-samples        the program on samples/
-#   make check-hostile        damaged files through the C entry (CASES=100000 SEED=1)
+#   make check-hostile        damaged files and sets through the C interface (CASES=100000 SEED=1)
 #   make clean                remove build/; target/ belongs to rt
 
 VERSION := $(shell sed -n 's/^.define GABZERIL_VERSION "\(.*\)"$$/\1/p' include/gabzeril.h)
@@ -33,7 +33,7 @@ PROGRAM = target/bin/gabzeril
 PROVED := crates.txt $(shell find crates \( -name '*.rt' -o -name '*.antt' \))
 
 LIBRARY = build/libgabzeril.a
-EXAMPLES = switch collector
+EXAMPLES = switch collector switch_set collector_set
 
 .PHONY: all demo help install uninstall examples sanitized-examples check-examples check-samples check-hostile clean
 
@@ -92,8 +92,8 @@ build/examples/%: examples/%.c examples/files.c examples/files.h include/gabzeri
 build/sanitized/%: examples/%.c examples/files.c examples/files.h include/gabzeril.h $(LIBRARY)
 	$(CC) $(WARNINGS) $(SANITIZERS) -Iinclude -o $@ $< examples/files.c $(LIBRARY)
 
-build/sanitized/hostile: tests-c/hostile.c include/gabzeril.h $(LIBRARY)
-	$(CC) $(WARNINGS) $(SANITIZERS) -Iinclude -o $@ $< $(LIBRARY)
+build/sanitized/hostile: tests-c/hostile.c tests-c/hostile_sets.c tests-c/hostile.h include/gabzeril.h $(LIBRARY)
+	$(CC) $(WARNINGS) $(SANITIZERS) -Iinclude -o $@ $(filter %.c,$^) $(LIBRARY)
 
 check-examples: sanitized-examples
 	examples/run.sh build/sanitized

@@ -2,6 +2,7 @@
 
 #include <stdio.h>
 #include <stdlib.h>
+#include <string.h>
 
 static uint8_t file[FILE_BYTES];
 
@@ -32,6 +33,56 @@ size_t load_pool(const char *path, uint32_t table[GABZERIL_TABLE_WORDS])
 {
     size_t length = load_file(path);
     return accepted(gabzeril_read_pool(file, length, table, GABZERIL_TABLE_WORDS), path);
+}
+
+/* Puts a rule file behind the rules that the set has. */
+static void add_rule(struct set *set, const char *path)
+{
+    if (set->counts_length == GABZERIL_SET_LIMIT) {
+        fprintf(stderr, "%s: a set has at most %d rules\n", path, GABZERIL_SET_LIMIT);
+        exit(1);
+    }
+    size_t length = load_rule(path, set->rules + set->rules_length);
+    set->rules_length += length;
+    set->counts[set->counts_length++] = (uint32_t)(length / GABZERIL_ENTRY_WORDS);
+}
+
+/* Refusals 1 to 7 are of one rule: the place within the set becomes a rule and a place within that. */
+static void check_set(const struct set *set, char **paths)
+{
+    gabzeril_answer answer =
+        gabzeril_check_set(set->rules, set->rules_length, set->counts, set->counts_length);
+    size_t rule = 0;
+    if (answer.number < GABZERIL_REFUSED_RULE_LENGTH || answer.number > GABZERIL_REFUSED_VARIABLE) {
+        accepted(answer, "set");
+        return;
+    }
+    while (answer.place > 0 && answer.place >= set->counts[rule]) {
+        answer.place -= set->counts[rule++];
+    }
+    accepted(answer, paths[rule]);
+}
+
+size_t load_set(char **paths, struct set *set)
+{
+    set->rules_length = 0;
+    set->counts_length = 0;
+    for (size_t i = 0; paths[i] != NULL && strcmp(paths[i], "--") != 0; i++) {
+        add_rule(set, paths[i]);
+    }
+    check_set(set, paths);
+    return set->counts_length;
+}
+
+void save_pool(const char *path, const uint32_t *table, size_t table_length)
+{
+    const char *name = path == NULL ? "standard output" : path;
+    size_t length = accepted(gabzeril_write_pool(table, table_length, file, sizeof file), name);
+    FILE *stream = path == NULL ? stdout : fopen(path, "wb");
+    if (stream == NULL || fwrite(file, 1, length, stream) != length || fclose(stream) != 0) {
+        perror(name);
+        exit(1);
+    }
 }
 
 size_t accepted(gabzeril_answer answer, const char *subject)

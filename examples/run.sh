@@ -3,6 +3,10 @@
 # marked rows. What they print is compared with the file `expected`. Then every choice of levels must give
 # the collector's answer on the whole tables.
 #
+# The same with a set, six rules of samples/: each switch makes one full part for all of them, and what is
+# printed is compared with `expected-set`. Every choice of switches that send their whole tables instead must
+# give the same verdicts, and mark no row that is not marked on the whole tables.
+#
 #   examples/run.sh [PROGRAMS]   the folder of the built programs; without it they are built with sanitizers
 set -eu
 here=$(cd "$(dirname "$0")" && pwd)
@@ -17,6 +21,7 @@ programs=$(cd "$1" && pwd)
 folder=$(mktemp -d)
 trap 'rm -rf "$folder"' EXIT
 cp "$here"/*.txt "$folder"
+cp -r "$here/../samples/rules" "$folder"
 cd "$folder"
 
 passed=0
@@ -79,6 +84,81 @@ for first in 1 2 3; do
             { send 1 "$first"; send 2 "$second"; send 4 "$third"; } > found
             answer part1.txt part2.txt part4.txt >> found
             same "levels $first $second $third" whole found
+        done
+    done
+done
+
+# Sets.
+
+rules=(rules/client-or-server.txt rules/at-most-one-server.txt rules/mtu-at-most-9000.txt
+    rules/no-shared-router-id.txt rules/some-ntp-master.txt rules/no-shared-address.txt)
+
+# The full part of one switch for all rules, as the file full1.txt and so on.
+send_set() { # device rule...
+    run "$programs/switch_set" "d$1.txt" "full$1.txt" "${@:2}"
+}
+
+# What both programs say of a set that is refused. No part is written.
+refused_set() { # rule...
+    rm -f full1.txt
+    send_set 1 "$@"
+    run "$programs/collector_set" "$@" -- d1.txt
+    [ ! -e full1.txt ] || echo "a part was written"
+}
+
+sets() {
+    for device in 1 2 4; do
+        echo "switch $device"
+        send_set "$device" "${rules[@]}"
+        run cat "full$device.txt"
+    done
+    echo "collector"
+    run "$programs/collector_set" "${rules[@]}" -- full1.txt full2.txt full4.txt
+    echo "two rules whose own full parts are not enough together"
+    send_set 1 rules/some-device-all-client.txt rules/some-device.txt
+    run cat full1.txt
+    run "$programs/collector_set" rules/some-device-all-client.txt rules/some-device.txt -- full1.txt
+    echo "an unbound variable in the third rule"
+    refused_set rules/client-or-server.txt rules/some-ntp-master.txt rules/unbound-variable.txt rules/some-device.txt
+    echo "no entries in the second rule"
+    head -n 1 rules/some-device.txt > rules/empty.txt
+    refused_set rules/some-device.txt rules/empty.txt rules/unbound-variable.txt
+    echo "seven levels in the last rule"
+    refused_set rules/some-device.txt rules/six-levels.txt rules/seven-levels.txt
+    echo "no rules"
+    refused_set
+    echo "33 rules"
+    mapfile -t many < <(yes rules/some-device.txt | head -n 33)
+    refused_set "${many[@]}"
+    echo "32 rules"
+    run "$programs/collector_set" "${many[@]:1}" -- d1.txt | sort | uniq -c
+}
+
+sets > found
+same "sets" "$here/expected-set" found
+
+# The verdicts, and the marked rows, each with its rule.
+verdicts_of() { # file
+    sed -e '/^rows /d' -e 's/, marked.*//' "$1"
+}
+marked_of() { # file
+    sed -n 's/, marked//p' "$1" | awk '{ for (i = 3; i <= NF; i++) print $1, $i }' | sort
+}
+
+run "$programs/collector_set" "${rules[@]}" -- d1.txt d2.txt d4.txt > whole
+verdicts_of whole > whole-verdicts
+marked_of whole > whole-marked
+for device in 1 2 4; do
+    send_set "$device" "${rules[@]}"
+done
+for first in d1 full1; do
+    for second in d2 full2; do
+        for third in d4 full4; do
+            run "$programs/collector_set" "${rules[@]}" -- "$first.txt" "$second.txt" "$third.txt" > found
+            verdicts_of found > found-verdicts
+            same "verdicts on $first $second $third" whole-verdicts found-verdicts
+            marked_of found | comm -23 - whole-marked > marked-here-alone
+            same "marks on $first $second $third" /dev/null marked-here-alone
         done
     done
 done

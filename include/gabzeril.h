@@ -3,17 +3,18 @@
  * This header is the reference of the calls. docs/MANUAL.md has rows, rules, files and refusals.
  *
  * Rules and tables are runs of 32-bit words that the caller lends: a rule has four words an entry
- * (kind a b c), a table six words a row (device at up deep name value). Lengths are in words for rules and
- * tables, in bytes for files and marks. NULL with length 0 is an empty run. The library keeps no
- * pointer, allocates nothing and has no state: calls on different buffers may run side by side.
- * Buffers of one call must not overlap.
+ * (kind a b c), a table six words a row (device at up deep name value). A set is rules laid end to end, and
+ * a word for each that counts its entries. Lengths are in words for rules, counts and tables, in bytes for
+ * files, marks and verdicts. NULL with length 0 is an empty run. The library keeps no pointer, allocates
+ * nothing and has no state: calls on different buffers may run side by side. Buffers of one call must not
+ * overlap.
  *
  * A refused call changes no byte of any buffer. An accepted call writes its answer at the start of its
  * output and leaves what lies past it.
  *
  * Stack on the largest inputs of the tests, in KiB: gabzeril_verdict 34, gabzeril_marks 43, gabzeril_part 44,
- * gabzeril_check_files 60, gabzeril_report 70, every other call below 9. The tests run each in a thread of
- * 128 KiB; that is no promise.
+ * gabzeril_set_verdicts 34, gabzeril_set_part 44, gabzeril_check_files 60, gabzeril_report 70, every other call
+ * below 9. The tests run each in a thread of 128 KiB; that is no promise.
  */
 #ifndef GABZERIL_H
 #define GABZERIL_H
@@ -26,7 +27,7 @@ extern "C" {
 #endif
 
 /* The Makefile reads the version from this line. */
-#define GABZERIL_VERSION "0.3.0"
+#define GABZERIL_VERSION "0.4.0"
 
 /* Limits. */
 
@@ -35,14 +36,16 @@ extern "C" {
 #define GABZERIL_ENTRY_LIMIT 128 /* a rule has 1 to so many entries */
 #define GABZERIL_ROW_LIMIT 1024  /* a table has 0 to so many rows */
 #define GABZERIL_NESTING_LIMIT 6 /* so many quantifiers stand around one another at most */
+#define GABZERIL_SET_LIMIT 32    /* a set has 1 to so many rules */
 
 #define GABZERIL_NAME_LIMIT 65535       /* device, at and name are 1 to this; so are names in quantifiers */
 #define GABZERIL_VALUE_LIMIT 2147483647 /* values and constants are 0 to this */
 
 /* Buffers that are never too short. A part has at most the words of the device's table, marks have a byte
- * for each row of the pool. */
+ * for each row of the pool, verdicts and counts of a set have at most GABZERIL_SET_LIMIT. */
 
 #define GABZERIL_RULE_WORDS (GABZERIL_ENTRY_LIMIT * GABZERIL_ENTRY_WORDS) /* any rule */
+#define GABZERIL_SET_WORDS (GABZERIL_SET_LIMIT * GABZERIL_RULE_WORDS)     /* the rules of any set */
 #define GABZERIL_TABLE_WORDS (GABZERIL_ROW_LIMIT * GABZERIL_ROW_WORDS)    /* any table, joined ones too */
 #define GABZERIL_RULE_FILE_BYTES 2187     /* the file of any rule: its first line, and 17 bytes an entry */
 #define GABZERIL_POOL_FILE_BYTES 40989    /* the file of any table: its first line, and 40 bytes a row */
@@ -84,7 +87,7 @@ enum gabzeril_kind {
 /* What a device sends. */
 enum gabzeril_mode { GABZERIL_ALL = 1, GABZERIL_BRANCH = 2, GABZERIL_FULL = 3 };
 
-/* The numbers of the refusals. 15 and 20 to 25 are not used. A table is tested for 8, 9, 10, 11, 26 and 12, in
+/* The numbers of the refusals. 15 and 21 to 25 are not used. A table is tested for 8, 9, 10, 11, 26 and 12, in
  * this order; these are called "8 to 12 with 26" below. */
 enum gabzeril_refusal {
     GABZERIL_ACCEPTED = 0,
@@ -106,6 +109,7 @@ enum gabzeril_refusal {
     GABZERIL_REFUSED_SHORT_OUTPUT = 17,
     GABZERIL_REFUSED_FIRST_LINE = 18,
     GABZERIL_REFUSED_LINE = 19,
+    GABZERIL_REFUSED_COUNTS = 20,
     GABZERIL_REFUSED_DEPTH = 26
 };
 
@@ -133,7 +137,7 @@ static inline const char *gabzeril_refusal_text(uint32_t number)
         /* 17 */ "the output is shorter than the answer",
         /* 18 */ "the file's first line is wrong or not ended",
         /* 19 */ "a line of the file is not ended or not the right numbers",
-        /* 20 */ "not used",
+        /* 20 */ "the counts are none, too many or do not add up to the entries",
         /* 21 */ "not used",
         /* 22 */ "not used",
         /* 23 */ "not used",
@@ -209,6 +213,42 @@ gabzeril_answer gabzeril_marks(const uint32_t *rule, size_t rule_length,
 gabzeril_answer gabzeril_part(const uint32_t *rule, size_t rule_length,
                               const uint32_t *table, size_t table_length, uint32_t mode,
                               uint32_t *part, size_t part_length);
+
+/* Sets. `rules` has the words of 1 to GABZERIL_SET_LIMIT rules, one rule right behind the other; `counts` has a
+ * word for each rule: its number of entries. Children are numbered within their own rule, from 0.
+ *
+ * 20, place 0, if there are no counts, more than GABZERIL_SET_LIMIT, or counts that do not add up to the whole
+ * entries of `rules`; a word left over is 20 too. 1 to 7 follow, all of them of one rule before those of the
+ * next. Their place counts from the first entry of the set; that of 1, a count of 0 or above
+ * GABZERIL_ENTRY_LIMIT, is where the rule begins. The rule that a place of 1 to 7 lies in, and the entry there:
+ *
+ *     size_t rule = 0, entry = answer.place;
+ *     while (entry > 0 && entry >= counts[rule])
+ *         entry -= counts[rule++];
+ *
+ * Marks are made for one rule at a time: gabzeril_marks with the rule's own words, rules + 4 * e and the length
+ * 4 * counts[i], where e is the sum of the counts before it. */
+
+/* Refusals 20, 1 to 7. Value: the number of rules. */
+gabzeril_answer gabzeril_check_set(const uint32_t *rules, size_t rules_length,
+                                   const uint32_t *counts, size_t counts_length);
+
+/* The verdict of each rule on the pool, as a byte in the order of the rules: 1 true, 0 false. Refusals 20, 1
+ * to 7, 8 to 12 with 26, 17 if there are fewer bytes than rules. Value: the number of rules. */
+gabzeril_answer gabzeril_set_verdicts(const uint32_t *rules, size_t rules_length,
+                                      const uint32_t *counts, size_t counts_length,
+                                      const uint32_t *pool, size_t pool_length,
+                                      uint8_t *verdicts, size_t verdicts_length);
+
+/* The rows that one device sends for the whole set, with the modes of gabzeril_part. Mode 2: the rows that some
+ * rule reaches, if all their ancestors are reached too, each by any rule. Mode 3: the rows that are not spare
+ * for the set and have no ancestor that is; spare for the set is a row that is spare for each rule. That may be
+ * more rows than the rules' own parts have together. Refusals 20, 1 to 7, 8 to 12 with 26, 13, 14, 17; the set
+ * is checked in mode 1 too. Value: the number of rows sent. */
+gabzeril_answer gabzeril_set_part(const uint32_t *rules, size_t rules_length,
+                                  const uint32_t *counts, size_t counts_length,
+                                  const uint32_t *table, size_t table_length, uint32_t mode,
+                                  uint32_t *part, size_t part_length);
 
 /* The verdict of a rule file on a pool file: 0 false, 1 true, or 100 plus the refusal. Refusals in the
  * order: rule file (18, 19), rule (1 to 7), pool file (18, 19), pool (8 to 12 with 26); a file with too

@@ -1,8 +1,10 @@
-/* Damaged rule and pool files through gabzeril_check_files and gabzeril_report.
+/* Damaged rule and pool files through gabzeril_check_files and gabzeril_report; damaged sets of rules, in
+ * hostile_sets.c, through the three calls on sets.
  *
  *     hostile [CASES [SEED [FIRST]]]
  *
- * Case number n from FIRST on depends on SEED and n alone, so that one case can be run again.
+ * Case number n from FIRST on depends on SEED and n alone, so that one case can be run again. It is two files
+ * and, if n is even, a set.
  *
  * A sanitizer sees only code that was compiled with it, and the library's archive is not. So every buffer
  * lies against a page without access, at its end or at its start, and inputs are on pages that are read-only
@@ -14,10 +16,9 @@
  */
 #define _DEFAULT_SOURCE
 
-#include "gabzeril.h"
+#include "hostile.h"
 
 #include <fcntl.h>
-#include <stdio.h>
 #include <stdlib.h>
 #include <string.h>
 #include <sys/mman.h>
@@ -29,13 +30,11 @@
 #endif
 
 enum {
-    ROW_WORDS = GABZERIL_ROW_WORDS,
     RULE_WORDS = GABZERIL_RULE_WORDS,
     POOL_WORDS = GABZERIL_TABLE_WORDS,
     PROGRAM_BYTES = GABZERIL_PROGRAM_FILE_BYTES,
     TEXT_BYTES = GABZERIL_REPORT_BYTES,
     FILE_BYTES = 100000, /* the longest file made here */
-    FILLED = 0xa5,       /* every byte of an output before the call */
     MANY_CASES = 50000   /* so many must meet every answer */
 };
 
@@ -48,7 +47,7 @@ static const char pool_row[] = "1 1 0 0 1 1\n";
 static uint64_t random_state, case_seed;
 static unsigned long case_number;
 
-static uint64_t draw(void)
+uint64_t draw(void)
 {
     uint64_t mixed = random_state += 0x9e3779b97f4a7c15u;
     mixed = (mixed ^ (mixed >> 30)) * 0xbf58476d1ce4e5b9u;
@@ -56,22 +55,17 @@ static uint64_t draw(void)
     return mixed ^ (mixed >> 31);
 }
 
-static uint32_t below(size_t limit)
+uint32_t below(size_t limit)
 {
     return (uint32_t)(draw() % limit);
 }
 
-static int chance(uint32_t percent)
+int chance(uint32_t percent)
 {
     return below(100) < percent;
 }
 
 /* Memory between two pages without access. */
-
-struct area {
-    uint8_t *start;
-    size_t size;
-};
 
 static struct area rule_area, pool_area, text_area, rule_words_area, pool_words_area;
 
@@ -88,7 +82,7 @@ static void set_access(struct area area, int access)
     }
 }
 
-static struct area new_area(size_t bytes)
+struct area new_area(size_t bytes)
 {
     size_t page = (size_t)sysconf(_SC_PAGESIZE);
     size_t size = (bytes + page - 1) / page * page;
@@ -101,8 +95,7 @@ static struct area new_area(size_t bytes)
     return area;
 }
 
-/* So many bytes of the area, at its end or at its start. An empty run is at times NULL. */
-static void *run_of(struct area area, size_t length)
+void *run_of(struct area area, size_t length)
 {
     if (length == 0 && chance(50)) {
         return NULL;
@@ -110,8 +103,7 @@ static void *run_of(struct area area, size_t length)
     return chance(70) ? area.start + area.size - length : area.start;
 }
 
-/* A read-only copy in the area. */
-static const void *lend(struct area area, const void *bytes, size_t length)
+const void *lend(struct area area, const void *bytes, size_t length)
 {
     set_access(area, PROT_READ | PROT_WRITE);
     void *run = run_of(area, length);
@@ -154,14 +146,9 @@ static void start_file(struct file *file, const char *first_line)
     add_bytes(file, first_line, strlen(first_line));
 }
 
-/* Rules. At most four quantifiers, so that no case takes long. */
+/* Rules. */
 
-struct rule {
-    uint32_t entries, quantifiers;
-    uint32_t words[RULE_WORDS];
-};
-
-static void set_entry(struct rule *rule, uint32_t at, uint32_t kind, uint32_t a, uint32_t b, uint32_t c)
+void set_entry(struct rule *rule, uint32_t at, uint32_t kind, uint32_t a, uint32_t b, uint32_t c)
 {
     uint32_t words[4] = {kind, a, b, c};
     memcpy(rule->words + 4 * at, words, sizeof words);
@@ -174,8 +161,7 @@ static void set_comparison(struct rule *rule, uint32_t at, uint32_t bound)
     set_entry(rule, at, GABZERIL_EQUAL + below(3), below(variables), constant, below(constant ? 5 : variables));
 }
 
-/* Adds a formula that stands under `bound` quantifiers. Connectives nest at most `depth` deep. */
-static void add_formula(struct rule *rule, uint32_t depth, uint32_t bound)
+void add_formula(struct rule *rule, uint32_t depth, uint32_t bound)
 {
     uint32_t at = rule->entries++;
     uint32_t choice = depth == 0 ? 9 : below(10), deeper = depth == 0 ? 0 : depth - 1;
@@ -196,16 +182,14 @@ static void add_formula(struct rule *rule, uint32_t depth, uint32_t bound)
     }
 }
 
-/* A quantifier over roots around a comparison: for tables with many rows. */
-static void quick_rule(struct rule *rule)
+void quick_rule(struct rule *rule)
 {
     set_entry(rule, 0, 5 + below(2), 1, 0, 1 + below(3));
     set_entry(rule, 1, 7 + below(3), 0, 1, below(5));
     rule->entries = 2;
 }
 
-/* Quantifiers around one another, as many as may be or one more. */
-static void deep_rule(struct rule *rule)
+void deep_rule(struct rule *rule)
 {
     uint32_t depth = GABZERIL_NESTING_LIMIT + below(2);
     for (uint32_t i = 0; i < depth; i++) {
@@ -217,37 +201,35 @@ static void deep_rule(struct rule *rule)
 
 /* Rows. */
 
-static void add_row(struct file *file, uint32_t device, uint32_t at, uint32_t up, uint32_t deep, uint32_t value)
+static void add_row(struct table *table, uint32_t device, uint32_t at, uint32_t up, uint32_t deep, uint32_t value)
 {
     uint32_t words[ROW_WORDS] = {device, at, up, deep, 1 + below(3), value};
-    add_words(file, words, ROW_WORDS);
+    memcpy(table->words + ROW_WORDS * table->rows++, words, sizeof words);
 }
 
-/* Rows of rising devices and places; few names and values, so that all checks are met. */
-static void add_rows(struct file *file, uint32_t rows)
+void add_rows(struct table *table, uint32_t rows, uint32_t next_device)
 {
     uint32_t deep[GABZERIL_ROW_LIMIT + 1]; /* of the device's rows, by at */
     uint32_t device = 1, at = 0, spread = chance(50) ? 5 : 2000;
     for (uint32_t row = 0; row < rows; row++) {
-        if (chance(25)) {
+        if (chance(next_device)) {
             device += 1 + below(2);
             at = 0;
         }
         at++;
         uint32_t up = chance(30) ? 0 : below(at);
         deep[at] = up == 0 ? 0 : deep[up] + 1;
-        add_row(file, device, at, up, deep[at], below(spread));
+        add_row(table, device, at, up, deep[at], below(spread));
     }
 }
 
-/* About as many rows as a table may have: distinct roots, children of one root, or each under the last. */
-static void add_many_rows(struct file *file)
+void add_many_rows(struct table *table)
 {
     uint32_t rows = GABZERIL_ROW_LIMIT - 4 + below(8), shape = below(3);
     for (uint32_t row = 0; row < rows; row++) {
         uint32_t up = shape == 0 || row == 0 ? 0 : shape == 1 ? 1 : row;
         uint32_t deep = up; /* in all three */
-        add_row(file, 1, row + 1, up, deep, row);
+        add_row(table, 1, row + 1, up, deep, row);
     }
 }
 
@@ -395,27 +377,31 @@ static void lengthen(struct file *file, const char *line)
     }
 }
 
-/* One case: both files, nearly always with one of them damaged or both. */
+/* The files of a case: nearly always with one of them damaged or both. */
 
 static void make_files(void)
 {
     static struct rule rule;
+    static struct table table;
     uint32_t which = below(100);
-    rule.entries = rule.quantifiers = 0;
+    rule.entries = rule.quantifiers = table.rows = 0;
     start_file(&rule_file, rule_line);
     start_file(&pool_file, pool_line);
     if (which < 2) {
         quick_rule(&rule);
-        add_many_rows(&pool_file);
+        add_many_rows(&table);
     } else if (which < 5) {
         deep_rule(&rule);
-        add_rows(&pool_file, below(4));
+        add_rows(&table, below(4), 25);
     } else {
         add_formula(&rule, 1 + below(5), 0);
-        add_rows(&pool_file, below(11));
+        add_rows(&table, below(11), 25);
     }
     for (uint32_t at = 0; at < rule.entries; at++) {
         add_words(&rule_file, rule.words + 4 * at, 4);
+    }
+    for (uint32_t row = 0; row < table.rows; row++) {
+        add_words(&pool_file, table.words + ROW_WORDS * row, ROW_WORDS);
     }
     if (chance(1)) {
         lengthen(chance(50) ? &rule_file : &pool_file, chance(50) ? "1 2 0 0\n" : pool_row);
@@ -466,7 +452,7 @@ static uint32_t separate_calls(const void *rule_bytes, const void *pool_bytes, s
     return verdict.number == 0 ? (uint32_t)verdict.value : 100 + verdict.number;
 }
 
-static int all_filled(const uint8_t *bytes, size_t length)
+int all_filled(const uint8_t *bytes, size_t length)
 {
     for (size_t i = 0; i < length; i++) {
         if (bytes[i] != FILLED) {
@@ -502,20 +488,16 @@ static int is_answer(uint32_t answer)
     return answer <= 1 || (answer >= 101 && answer <= 112) || answer == 118 || answer == 119 || answer == 126;
 }
 
-/* Begins a line about the running case, with the numbers that run it again. */
-static void print_case(FILE *stream)
+void print_case(FILE *stream)
 {
     fprintf(stream, "seed %llu, case %lu: ", (unsigned long long)case_seed, case_number);
 }
 
 static unsigned long seen[127];
 
-/* Runs one case; 1 if all is as it should be. */
-static int run_case(uint64_t seed, unsigned long number)
+/* Runs the files of a case; 1 if all is as it should be. */
+static int run_files(void)
 {
-    case_seed = seed;
-    case_number = number;
-    random_state = (seed << 32) + number;
     make_files();
     damage_files();
     const void *rule_bytes = lend(rule_area, rule_file.bytes, rule_file.length);
@@ -533,6 +515,16 @@ static int run_case(uint64_t seed, unsigned long number)
         return 0;
     }
     return 1;
+}
+
+static int run_case(uint64_t seed, unsigned long number)
+{
+    case_seed = seed;
+    case_number = number;
+    random_state = (seed << 32) + number;
+    int good_files = run_files();
+    random_state = ~random_state;
+    return (number % 2 == 1 || run_set()) && good_files;
 }
 
 /* The harness itself. */
@@ -582,6 +574,7 @@ static void make_areas(void)
     text_area = new_area(2 * TEXT_BYTES);
     rule_words_area = new_area(RULE_WORDS * sizeof(uint32_t));
     pool_words_area = new_area(POOL_WORDS * sizeof(uint32_t));
+    make_areas_of_sets();
 }
 
 static void print_seen(void)
@@ -629,8 +622,9 @@ int main(int argc, char **argv)
         failed += (unsigned long)!good;
     }
     print_seen();
+    print_seen_by_sets();
     if (cases >= MANY_CASES) {
-        failed += count_unseen();
+        failed += count_unseen() + count_unseen_by_sets();
     }
     printf("hostile: %lu passed, %lu failed\n", passed, failed);
     return failed != 0 || passed == 0;

@@ -1,6 +1,8 @@
-//! The figures that the issue about speed asks for, beside those measured.
+//! The figures that are asked for, beside those measured.
 
-use crate::cases::{label, A_TRUE, B_TRUE, C_TRUE, ONE_DEVICE, THREE_ROWS};
+use crate::cases::{
+    label, A_TRUE, BOOK_ON_DEVICES, BOOK_ON_ONE_DEVICE, B_TRUE, C_TRUE, ONE_DEVICE, THREE_ROWS,
+};
 use crate::instructions::{shown, Counts};
 
 /// A limit of the instructions of one case.
@@ -16,7 +18,7 @@ const fn limit(call: &'static str, on: &'static str, rows: u32, most: Option<u64
     Limit { call, on, rows, most }
 }
 
-const LIMITS: [Limit; 12] = [
+const LIMITS: [Limit; 21] = [
     limit("check_table", THREE_ROWS, 1_020, Some(400_000)),
     limit("check_table", ONE_DEVICE, 1_021, Some(400_000)),
     limit("verdict", B_TRUE, 1_020, Some(2_000_000)),
@@ -29,6 +31,15 @@ const LIMITS: [Limit; 12] = [
     limit("part, mode 3", "rule B, one device", 1_021, None),
     limit("part, mode 2", C_TRUE, 1_021, None),
     limit("part, mode 3", C_TRUE, 1_021, None),
+    limit("verdict of each rule", BOOK_ON_DEVICES, 1_020, None),
+    limit("part for each rule, mode 2", BOOK_ON_ONE_DEVICE, 300, None),
+    limit("set_part, mode 2", BOOK_ON_ONE_DEVICE, 300, None),
+    limit("part for each rule, mode 3", BOOK_ON_ONE_DEVICE, 300, None),
+    limit("set_part, mode 3", BOOK_ON_ONE_DEVICE, 300, None),
+    limit("part for each rule, mode 2", BOOK_ON_ONE_DEVICE, 1_020, None),
+    limit("set_part, mode 2", BOOK_ON_ONE_DEVICE, 1_020, None),
+    limit("part for each rule, mode 3", BOOK_ON_ONE_DEVICE, 1_020, None),
+    limit("set_part, mode 3", BOOK_ON_ONE_DEVICE, 1_020, None),
 ];
 
 pub fn print(counts: &Counts, before: &Counts) {
@@ -47,6 +58,7 @@ pub fn print(counts: &Counts, before: &Counts) {
         );
     }
     print_growth(counts, before);
+    print_set_verdicts(counts, before);
 }
 
 fn yes_or_no(met: bool) -> &'static str {
@@ -67,4 +79,23 @@ fn print_growth(counts: &Counts, before: &Counts) {
         .map(|counts| growth(counts).map_or("".into(), |growth| format!("{growth:.2} times")));
     let met = growth(counts).map_or("", |growth| yes_or_no(growth <= 2.5));
     println!("| check_table | {THREE_ROWS}, 1,024 rows over 512 | | 2.5 times | {earlier} | {now} | {met} |");
+}
+
+/// The verdicts of a set check the table once: they may cost those of its 20 rules less 19 table checks, and
+/// five percent more.
+fn print_set_verdicts(counts: &Counts, before: &Counts) {
+    let of = |call: &str, on: &str| counts.of(&label(call, on, 1_020));
+    let most = || {
+        let checks = 19 * of("check_table", THREE_ROWS)?;
+        Some(of("verdict of each rule", BOOK_ON_DEVICES)?.saturating_sub(checks) * 105 / 100)
+    };
+    let count = of("set_verdicts", BOOK_ON_DEVICES);
+    let met = most().and_then(|most| Some(yes_or_no(count? <= most))).unwrap_or("");
+    let earlier = before.of(&label("set_verdicts", BOOK_ON_DEVICES, 1_020));
+    println!(
+        "| set_verdicts | {BOOK_ON_DEVICES}: its verdicts less 19 table checks, and 5 % | 1020 | {} | {} | {} | {met} |",
+        shown(most()),
+        shown(earlier),
+        shown(count)
+    );
 }

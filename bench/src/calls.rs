@@ -1,6 +1,7 @@
 //! The calls of the C interface, made on the library or on the Rust checker.
 
 use gabzeril_tests::answer::Answer;
+use gabzeril_tests::generate::Set;
 use gabzeril_tests::{checker, ffi};
 
 /// The same functions of either side.
@@ -13,6 +14,9 @@ pub struct Side {
     marks: fn(&[u32], &[u32], &mut [u8]) -> Answer,
     part: fn(&[u32], &[u32], u32, &mut [u32]) -> Answer,
     check_files: fn(&[u8], &[u8]) -> u32,
+    check_set: fn(&Set) -> Answer,
+    set_verdicts: fn(&Set, &[u32], &mut [u8]) -> Answer,
+    set_part: fn(&Set, &[u32], u32, &mut [u32]) -> Answer,
 }
 
 pub const LIBRARY: Side = Side {
@@ -24,6 +28,9 @@ pub const LIBRARY: Side = Side {
     marks: ffi::marks,
     part: ffi::part,
     check_files: ffi::check_files,
+    check_set: |set| ffi::check_set(&set.rules, &set.counts),
+    set_verdicts: |set, pool, verdicts| ffi::set_verdicts(&set.rules, &set.counts, pool, verdicts),
+    set_part: |set, table, mode, part| ffi::set_part(&set.rules, &set.counts, table, mode, part),
 };
 
 pub const CHECKER: Side = Side {
@@ -35,19 +42,67 @@ pub const CHECKER: Side = Side {
     marks: checker::marks,
     part: checker::part,
     check_files: checker::check_files,
+    check_set: |set| checker::check_set(&set.rules, &set.counts),
+    set_verdicts: |set, pool, verdicts| checker::set_verdicts(&set.rules, &set.counts, pool, verdicts),
+    set_part: |set, table, mode, part| checker::set_part(&set.rules, &set.counts, table, mode, part),
 };
 
 /// One call with its inputs.
 #[derive(Clone)]
 pub enum Call {
-    CheckTable { table: Vec<u32> },
-    Join { first: Vec<u32>, second: Vec<u32> },
-    ReadPool { file: Vec<u8> },
-    WritePool { table: Vec<u32> },
-    Verdict { rule: Vec<u32>, pool: Vec<u32> },
-    Marks { rule: Vec<u32>, pool: Vec<u32> },
-    Part { rule: Vec<u32>, table: Vec<u32>, mode: u32 },
-    CheckFiles { rule_file: Vec<u8>, pool_file: Vec<u8> },
+    CheckTable {
+        table: Vec<u32>,
+    },
+    Join {
+        first: Vec<u32>,
+        second: Vec<u32>,
+    },
+    ReadPool {
+        file: Vec<u8>,
+    },
+    WritePool {
+        table: Vec<u32>,
+    },
+    Verdict {
+        rule: Vec<u32>,
+        pool: Vec<u32>,
+    },
+    Marks {
+        rule: Vec<u32>,
+        pool: Vec<u32>,
+    },
+    Part {
+        rule: Vec<u32>,
+        table: Vec<u32>,
+        mode: u32,
+    },
+    CheckFiles {
+        rule_file: Vec<u8>,
+        pool_file: Vec<u8>,
+    },
+    CheckSet {
+        set: Set,
+    },
+    SetVerdicts {
+        set: Set,
+        pool: Vec<u32>,
+    },
+    SetPart {
+        set: Set,
+        table: Vec<u32>,
+        mode: u32,
+    },
+    /// The verdict of each rule of a set by the call on one rule.
+    EachVerdict {
+        set: Set,
+        pool: Vec<u32>,
+    },
+    /// The part for each rule likewise.
+    EachPart {
+        set: Set,
+        table: Vec<u32>,
+        mode: u32,
+    },
 }
 
 /// The outputs of a call, long enough for any. They are not cleared from one call to the next.
@@ -82,6 +137,13 @@ impl Call {
             Call::CheckFiles { rule_file, pool_file } => {
                 Answer::Done((side.check_files)(rule_file, pool_file) as usize)
             }
+            Call::CheckSet { set } => (side.check_set)(set),
+            Call::SetVerdicts { set, pool } => (side.set_verdicts)(set, pool, bytes),
+            Call::SetPart { set, table, mode } => (side.set_part)(set, table, *mode, words),
+            Call::EachVerdict { set, pool } => on_each_rule(set, |rule| (side.verdict)(rule, pool)),
+            Call::EachPart { set, table, mode } => {
+                on_each_rule(set, |rule| (side.part)(rule, table, *mode, words))
+            }
         }
     }
 
@@ -95,6 +157,25 @@ impl Call {
             Call::Marks { .. } => "marks".into(),
             Call::Part { mode, .. } => format!("part, mode {mode}"),
             Call::CheckFiles { .. } => "check_files".into(),
+            Call::CheckSet { .. } => "check_set".into(),
+            Call::SetVerdicts { .. } => "set_verdicts".into(),
+            Call::SetPart { mode, .. } => format!("set_part, mode {mode}"),
+            Call::EachVerdict { .. } => "verdict of each rule".into(),
+            Call::EachPart { mode, .. } => format!("part for each rule, mode {mode}"),
         }
     }
+}
+
+/// The sum of the values of a call on each rule; none is refused.
+fn on_each_rule(set: &Set, mut call: impl FnMut(&[u32]) -> Answer) -> Answer {
+    let (mut sum, mut rest) = (0, &set.rules[..]);
+    for &count in &set.counts {
+        let (rule, others) = rest.split_at(count as usize * checker::ENTRY_WORDS);
+        rest = others;
+        match call(rule) {
+            Answer::Done(value) => sum += value,
+            refused => return refused,
+        }
+    }
+    Answer::Done(sum)
 }

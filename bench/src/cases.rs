@@ -5,8 +5,8 @@ use gabzeril_tests::checker::{rows_of, words_of, POOL, ROW_WORDS, RULE};
 use crate::calls::Call;
 use crate::inputs::{
     all_in_one_chain, children_in_one_chain, deep, devices, early, gathered, late, names_in_one_chain,
-    one_device, path, places_in_one_chain, roots, roots_in_one_chain, with_no_parent, with_wrong_depth,
-    with_wrong_depths, A, B, C,
+    one_device, path, places_in_one_chain, roots, roots_in_one_chain, rule_book, with_no_parent,
+    with_wrong_depth, with_wrong_depths, A, B, C,
 };
 
 pub struct Case {
@@ -54,6 +54,10 @@ const LATE: &str = "late rule, roots";
 /// No comparison uses the innermost variable: a reading need not bind it.
 const EARLY: &str = "early rule, roots";
 
+pub const BOOK: &str = "rule book of 20";
+pub const BOOK_ON_DEVICES: &str = "rule book of 20, devices of three rows";
+pub const BOOK_ON_ONE_DEVICE: &str = "rule book of 20, one device";
+
 pub fn all() -> Vec<Case> {
     let mut cases = vec![];
     for rows in [512, 1_020, 1_024] {
@@ -88,7 +92,27 @@ pub fn all() -> Vec<Case> {
     for rows in [512, 1_024] {
         on_one_chain(&mut cases, rows);
     }
+    of_the_rule_book(&mut cases);
     cases
+}
+
+/// The calls on a set beside those on each of its rules.
+fn of_the_rule_book(cases: &mut Vec<Case>) {
+    let set = rule_book();
+    cases.push(case(Call::CheckSet { set: set.clone() }, BOOK, 0));
+    let pool = devices(1_020, 1);
+    let call = Call::EachVerdict { set: set.clone(), pool: pool.clone() };
+    cases.push(case(call, BOOK_ON_DEVICES, 1_020));
+    cases.push(case(Call::SetVerdicts { set: set.clone(), pool }, BOOK_ON_DEVICES, 1_020));
+    for rows in [300, 1_020] {
+        let table = one_device(rows);
+        for mode in [2, 3] {
+            let call = Call::EachPart { set: set.clone(), table: table.clone(), mode };
+            cases.push(case(call, BOOK_ON_ONE_DEVICE, rows));
+            let call = Call::SetPart { set: set.clone(), table: table.clone(), mode };
+            cases.push(case(call, BOOK_ON_ONE_DEVICE, rows));
+        }
+    }
 }
 
 /// The longest that the checks of parents and depths take.

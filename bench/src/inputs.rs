@@ -1,7 +1,7 @@
 //! Rules and pools of the benchmark.
 
 use gabzeril_tests::checker::{rows_of, words_of, Row, ENTRY_WORDS, MOST_NAME, MOST_NESTED, MOST_VALUE};
-use gabzeril_tests::generate::{ats_of_hash, library_hash as hash, twin_hash, STEPS};
+use gabzeril_tests::generate::{ats_of_hash, library_hash as hash, twin_hash, Set, STEPS};
 
 /// Rule A of the contract: each device is client or server.
 pub const A: [u32; 24] = [5, 1, 0, 1, 3, 2, 4, 0, 6, 3, 1, 2, 7, 1, 1, 1, 6, 5, 1, 2, 7, 1, 1, 2];
@@ -246,11 +246,47 @@ pub fn early() -> Vec<u32> {
     vec![6, 1, 0, 1, 5, 2, 0, 1, 9, 0, 1, MOST_VALUE]
 }
 
+/// A rule book of 20: eight rules as A, six as B, six as C, with other names and constants. On `devices` most
+/// are true, and go through all of it; those of addresses are settled by the first interface, which has none.
+pub fn rule_book() -> Set {
+    let mut rules = vec![];
+    // Each device has one of two modes; or some interface with one of two numbers.
+    for (name, one, other) in [(2, 1, 2), (2, 2, 1), (2, 1, 3), (3, 100, 101), (3, 101, 100), (3, 1_003, 100)]
+    {
+        rules.push(one_of_two(name, one, other));
+    }
+    // As wide, of interfaces that no device has; and of a mode that not all have.
+    rules.extend([one_of_two(3, 7, 8), one_of_two(2, 3, 4)]);
+    // At most one device is server, is transparent, is off, has the interface 102, 103 or 104.
+    for (name, value) in [(2, SERVER), (2, 3), (2, 4), (3, 102), (3, 103), (3, 104)] {
+        rules.push(at_most_one(name, value));
+    }
+    for limit in [1_000_000, 100_000, 10_000, 5_000, 2_000, 1_500] {
+        rules.push([&C[..C.len() - 1], &[limit]].concat());
+    }
+    Set::of(&rules)
+}
+
+/// Rule A with another name and other values.
+fn one_of_two(name: u32, one: u32, other: u32) -> Vec<u32> {
+    vec![5, 1, 0, 1, 3, 2, 4, 0, 6, 3, 1, name, 7, 1, 1, one, 6, 5, 1, name, 7, 1, 1, other]
+}
+
+/// Rule B with another name and value.
+fn at_most_one(name: u32, value: u32) -> Vec<u32> {
+    let mut rule = B.to_vec();
+    for place in [4, 6] {
+        rule[place * ENTRY_WORDS + 3] = name;
+        rule[(place + 1) * ENTRY_WORDS + 3] = value;
+    }
+    rule
+}
+
 #[cfg(test)]
 mod tests {
     use super::*;
     use gabzeril_tests::answer::Answer;
-    use gabzeril_tests::checker::{check_rule, check_table, verdict};
+    use gabzeril_tests::checker::{check_rule, check_set, check_table, set_verdicts, verdict};
     use gabzeril_tests::generate::place_hash;
 
     #[test]
@@ -304,6 +340,22 @@ mod tests {
         assert_eq!(verdict(&deep(64), &roots(64, 1)), Answer::Done(1));
         assert_eq!(verdict(&late(64), &roots(64, 1)), Answer::Done(0));
         assert_eq!(verdict(&early(), &roots(64, 1)), Answer::Done(1));
+    }
+
+    #[test]
+    fn the_rule_book_is_as_described() {
+        let set = rule_book();
+        assert_eq!(check_set(&set.rules, &set.counts), Answer::Done(20));
+        assert_eq!((one_of_two(2, 1, 2), at_most_one(2, SERVER)), (A.to_vec(), B.to_vec()));
+        let rules = set.each();
+        assert!((1..20).all(|place| !rules[..place].contains(&rules[place])), "two are equal");
+        let mut verdicts = [0; 20];
+        assert_eq!(
+            set_verdicts(&set.rules, &set.counts, &devices(1_020, 1), &mut verdicts),
+            Answer::Done(20)
+        );
+        let true_of = |rules: usize| verdicts[..rules].iter().filter(|&&verdict| verdict == 1).count();
+        assert_eq!([8, 14, 20].map(true_of), [5, 11, 11], "{verdicts:?}");
     }
 
     #[test]

@@ -5,9 +5,10 @@
 //! - `times COUNTS BEFORE`: times the library and the Rust checker.
 //! - `sqlite`: the library and SQLite on rules A and B.
 //! - `stack`: the stack that each call takes on the largest inputs.
-//! - `sent`: the rows sent for the formulas of document 004.
+//! - `sent`: the rows sent for the formulas of document 004, and for a rule book.
 
 mod asked;
+mod book;
 mod calls;
 mod cases;
 mod clock;
@@ -29,7 +30,11 @@ fn main() {
         ["times", counts, before] => times::print(&Counts::read(counts), &Counts::read(before)),
         ["sqlite"] => sqlite::print(),
         ["stack"] => stack::print(),
-        ["sent"] => sent::print(),
+        ["sent"] => {
+            sent::print();
+            println!();
+            book::print();
+        }
         _ => {
             eprintln!("usage: gabzeril-bench instructions | asked COUNTS BEFORE | times COUNTS BEFORE | sqlite | stack | sent");
             std::process::exit(2);

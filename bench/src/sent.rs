@@ -124,7 +124,8 @@ fn send(formula: &[u32], devices: &[Vec<u32>]) -> Sent {
     let mut verdicts = vec![];
     let mut sent = Sent { rows: [0; 3], whole_fits: true };
     for mode in 1..=3 {
-        let parts: Vec<_> = devices.iter().map(|device| part_of(formula, device, mode)).collect();
+        let part = |device: &Vec<u32>| part_of(device, |part| ffi::part(formula, device, mode, part));
+        let parts: Vec<_> = devices.iter().map(part).collect();
         sent.rows[mode as usize - 1] = parts.iter().map(|part| part.len() / ROW_WORDS).sum();
         match joined(&parts) {
             Some(pool) => verdicts.push(ffi::verdict(formula, &pool)),
@@ -136,9 +137,10 @@ fn send(formula: &[u32], devices: &[Vec<u32>]) -> Sent {
     sent
 }
 
-fn part_of(formula: &[u32], device: &[u32], mode: u32) -> Vec<u32> {
+/// The words that a call puts into a part of the device.
+pub fn part_of(device: &[u32], call: impl Fn(&mut [u32]) -> Answer) -> Vec<u32> {
     let mut part = vec![0; device.len()];
-    match ffi::part(formula, device, mode, &mut part) {
+    match call(&mut part) {
         Answer::Done(rows) => part.truncate(rows * ROW_WORDS),
         refused => panic!("part: {refused:?}"),
     }
@@ -146,7 +148,7 @@ fn part_of(formula: &[u32], device: &[u32], mode: u32) -> Vec<u32> {
 }
 
 /// None if the parts have more rows than a table may have.
-fn joined(parts: &[Vec<u32>]) -> Option<Vec<u32>> {
+pub fn joined(parts: &[Vec<u32>]) -> Option<Vec<u32>> {
     let mut pool = vec![0; MOST_ROWS * ROW_WORDS];
     let mut used = 0;
     for part in parts {

@@ -58,6 +58,16 @@ fn measure_all() -> Vec<(&'static str, usize)> {
             note("report", stack_of(|| ffi::report(&rule_file, &pool_file, &mut bytes)));
         }
     }
+    for set in &largest::sets() {
+        let (rules, counts) = (&set.rules, &set.counts);
+        note("check_set", stack_of(|| ffi::check_set(rules, counts)));
+        for table in &tables {
+            note("set_verdicts", stack_of(|| ffi::set_verdicts(rules, counts, table, &mut bytes)));
+            for (mode, name) in [(1, "set_part, mode 1"), (2, "set_part, mode 2"), (3, "set_part, mode 3")] {
+                note(name, stack_of(|| ffi::set_part(rules, counts, table, mode, &mut words)));
+            }
+        }
+    }
     most
 }
 

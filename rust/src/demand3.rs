@@ -1,15 +1,17 @@
 //! Demand 3 from outside: a list of devices, each of which sends a cut of its rows, and the joined cuts
-//! against the dump of the same devices.
+//! against the dump of the same devices. A set of rules is checked; one rule is the set of one.
 
 use crate::answer::{Answer, Refusal};
 use crate::checker::{accepted_rule, accepted_table, rows_of, spare_rows, ROW_WORDS};
+use crate::generate::Set;
 use crate::random::Random;
 
-/// The calls under test.
+/// The calls under test. Part and verdicts may be those on one rule, for sets of one.
 pub struct Calls {
-    pub part: fn(&[u32], &[u32], u32, &mut [u32]) -> Answer,
+    pub part: fn(&Set, &[u32], u32, &mut [u32]) -> Answer,
     pub join: fn(&mut [u32], usize, &[u32]) -> Answer,
-    pub verdict: fn(&[u32], &[u32]) -> Answer,
+    /// One byte for each rule.
+    pub verdicts: fn(&Set, &[u32], &mut [u8]) -> Answer,
     pub marks: fn(&[u32], &[u32], &mut [u8]) -> Answer,
 }
 
@@ -22,37 +24,32 @@ struct Joined {
 }
 
 /// Checks the claim for one list. The dump of all devices is accepted.
-pub fn check_list(
-    calls: &Calls,
-    random: &mut Random,
-    rule: &[u32],
-    devices: &[Vec<u32>],
-) -> Result<(), String> {
+pub fn check_list(calls: &Calls, random: &mut Random, set: &Set, devices: &[Vec<u32>]) -> Result<(), String> {
     let mut joined = Joined { cuts: vec![], dump: vec![] };
     // One kind for all devices, or any kind for each.
     let kind = random.below(5) as u32;
     for device in devices {
         let kind = if kind == 0 { random.between(1, 4) as u32 } else { kind };
         let cut = match kind {
-            4 => other_cut(random, rule, device),
-            mode => part(calls, random, rule, device, mode)?,
+            4 => other_cut(random, set, device),
+            mode => part(calls, random, set, device, mode)?,
         };
         joined.join(calls, random, device, &cut)?;
     }
-    joined.compare(calls, rule)
+    joined.compare(calls, set)
 }
 
 /// A cut as the device sends it in this mode.
 fn part(
     calls: &Calls,
     random: &mut Random,
-    rule: &[u32],
+    set: &Set,
     device: &[u32],
     mode: u32,
 ) -> Result<Vec<u32>, String> {
     let extra = random_extra(random);
     let mut buffer = random.words(device.len() + extra);
-    match (calls.part)(rule, device, mode, &mut buffer) {
+    match (calls.part)(set, device, mode, &mut buffer) {
         Answer::Done(rows) if rows * ROW_WORDS <= device.len() => {
             buffer.truncate(rows * ROW_WORDS);
             Ok(buffer)
@@ -65,12 +62,15 @@ fn random_extra(random: &mut Random) -> usize {
     random.pick(&[0, 0, 1, 7])
 }
 
-/// A cut that no mode need give: each spare row is left out or sent at random, and whatever hangs under
-/// a row left out is left out.
-fn other_cut(random: &mut Random, rule: &[u32], device: &[u32]) -> Vec<u32> {
-    let entries = accepted_rule(rule).expect("an accepted rule");
+/// A cut that no mode need give: each row that is spare for every rule is left out or sent at random, and
+/// whatever hangs under a row left out is left out.
+fn other_cut(random: &mut Random, set: &Set, device: &[u32]) -> Vec<u32> {
     let rows = accepted_table(device).expect("an accepted table");
-    let spare = spare_rows(&entries, &rows);
+    let mut spare = vec![true; rows.len()];
+    for rule in set.each() {
+        let entries = accepted_rule(rule).expect("an accepted rule");
+        spare.iter_mut().zip(spare_rows(&entries, &rows)).for_each(|(spare, for_rule)| *spare &= for_rule);
+    }
     let mut sent: Vec<u32> = vec![];
     let mut cut = vec![];
     for (row, spare) in rows.iter().zip(spare) {
@@ -113,26 +113,36 @@ impl Joined {
         Ok(())
     }
 
-    fn compare(&self, calls: &Calls, rule: &[u32]) -> Result<(), String> {
-        let (mut cut_marks, mut dump_marks) = (self.marks_buffer(&self.cuts), self.marks_buffer(&self.dump));
-        let answers = [
-            (calls.verdict)(rule, &self.cuts),
-            (calls.marks)(rule, &self.cuts, &mut cut_marks),
-            (calls.verdict)(rule, &self.dump),
-            (calls.marks)(rule, &self.dump, &mut dump_marks),
-        ];
-        let accepted = matches!(answers[0], Answer::Done(0 | 1));
-        let equal = answers.iter().all(|answer| *answer == answers[0]);
-        let dump_marked = marked(&self.dump, &dump_marks);
-        let kept = marked(&self.cuts, &cut_marks).iter().all(|row| dump_marked.contains(row));
-        if accepted && equal && kept {
-            return Ok(());
+    fn compare(&self, calls: &Calls, set: &Set) -> Result<(), String> {
+        let describe = |what: String| format!("cuts {:?}, dump {:?}: {what}", self.cuts, self.dump);
+        let rules = set.each();
+        let [on_cuts, on_dump] = [&self.cuts, &self.dump].map(|pool| {
+            let mut verdicts = vec![7; rules.len()];
+            ((calls.verdicts)(set, pool, &mut verdicts), verdicts)
+        });
+        let accepted = on_cuts.0 == Answer::Done(rules.len()) && on_cuts.1.iter().all(|&byte| byte <= 1);
+        if !accepted || on_cuts != on_dump {
+            return Err(describe(format!("{on_cuts:?} {on_dump:?}")));
         }
-        Err(format!("cuts {:?}, dump {:?}: {answers:?} {cut_marks:?} {dump_marks:?}", self.cuts, self.dump))
+        for (rule, verdict) in rules.into_iter().zip(on_cuts.1) {
+            self.compare_marks(calls, rule, verdict).map_err(describe)?;
+        }
+        Ok(())
     }
 
-    fn marks_buffer(&self, table: &[u32]) -> Vec<u8> {
-        vec![7; table.len() / ROW_WORDS]
+    /// Marks are made for each rule, and answer its verdict.
+    fn compare_marks(&self, calls: &Calls, rule: &[u32], verdict: u8) -> Result<(), String> {
+        let [on_cuts, on_dump] = [&self.cuts, &self.dump].map(|pool| {
+            let mut marks = vec![7; pool.len() / ROW_WORDS];
+            ((calls.marks)(rule, pool, &mut marks), marks)
+        });
+        let equal = [on_cuts.0, on_dump.0] == [Answer::Done(verdict.into()); 2];
+        let dump_marked = marked(&self.dump, &on_dump.1);
+        let kept = marked(&self.cuts, &on_cuts.1).iter().all(|row| dump_marked.contains(row));
+        if equal && kept {
+            return Ok(());
+        }
+        Err(format!("{rule:?} {verdict}: {on_cuts:?} {on_dump:?}"))
     }
 }
 
@@ -146,23 +156,60 @@ fn marked(table: &[u32], marks: &[u8]) -> Vec<[u32; 2]> {
 mod tests {
     use super::*;
     use crate::checker;
-    use crate::generate::{rule_and_devices, Together};
+    use crate::generate::{rule_and_devices, set_and_devices, Together};
+
+    const CHECKER: Calls = Calls {
+        part: |set, table, mode, part| checker::set_part(&set.rules, &set.counts, table, mode, part),
+        join: checker::join,
+        verdicts: |set, pool, verdicts| checker::set_verdicts(&set.rules, &set.counts, pool, verdicts),
+        marks: checker::marks,
+    };
 
     /// The claim, on the checker's own functions.
     #[test]
     fn holds_for_the_checker() {
-        let calls = Calls {
-            part: checker::part,
-            join: checker::join,
-            verdict: checker::verdict,
-            marks: checker::marks,
-        };
         for seed in 0..20_000 {
             let mut random = Random::new(seed);
             let (rule, devices) = rule_and_devices(&mut random, Together { rows: 24, cost: 20_000 });
-            if let Err(fault) = check_list(&calls, &mut random, &rule, &devices) {
-                panic!("seed {seed}: {rule:?} {devices:?}: {fault}");
+            check(seed, &mut random, &Set::of(&[rule]), &devices);
+        }
+        for seed in 0..10_000 {
+            let mut random = Random::new(seed);
+            let (set, devices) = set_and_devices(&mut random, Together { rows: 24, cost: 20_000 });
+            check(seed, &mut random, &set, &devices);
+        }
+    }
+
+    fn check(seed: u64, random: &mut Random, set: &Set, devices: &[Vec<u32>]) {
+        if let Err(fault) = check_list(&CHECKER, random, set, devices) {
+            panic!("seed {seed}: {set:?} {devices:?}: {fault}");
+        }
+    }
+
+    /// Without the rows that no rule's part has, some verdicts would be lost.
+    #[test]
+    fn finds_that_the_rules_parts_are_too_little() {
+        let calls = Calls { part: union_of_parts, ..CHECKER };
+        let fails = |&seed: &u64| {
+            let mut random = Random::new(seed);
+            let (set, devices) = set_and_devices(&mut random, Together { rows: 24, cost: 20_000 });
+            check_list(&calls, &mut random, &set, &devices).is_err()
+        };
+        let lists = (0..10_000).filter(fails).count();
+        assert!(lists >= 30, "only {lists} lists");
+    }
+
+    fn union_of_parts(set: &Set, table: &[u32], mode: u32, part: &mut [u32]) -> Answer {
+        let mut sent = vec![];
+        for rule in set.each() {
+            let mut words = vec![0; table.len()];
+            if let Answer::Done(rows) = checker::part(rule, table, mode, &mut words) {
+                sent.extend(rows_of(&words[..rows * ROW_WORDS]));
             }
         }
+        let rows: Vec<_> = rows_of(table).into_iter().filter(|row| sent.contains(row)).collect();
+        let words = checker::words_of(&rows);
+        part[..words.len()].copy_from_slice(&words);
+        Answer::Done(rows.len())
     }
 }

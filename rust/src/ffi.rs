@@ -28,6 +28,9 @@ pub use parts::*;
 #[cfg(feature = "files_entry")]
 pub use files_entry::*;
 
+#[cfg(feature = "sets")]
+pub use sets::*;
+
 #[repr(C)]
 struct RawAnswer {
     number: u32,
@@ -227,5 +230,77 @@ mod files_entry {
                 length,
             )
         }
+    }
+}
+
+#[cfg(feature = "sets")]
+mod sets {
+    use super::*;
+
+    extern "C" {
+        fn gabzeril_check_set(
+            rules: *const u32,
+            rules_length: usize,
+            counts: *const u32,
+            counts_length: usize,
+        ) -> RawAnswer;
+        fn gabzeril_set_verdicts(
+            rules: *const u32,
+            rules_length: usize,
+            counts: *const u32,
+            counts_length: usize,
+            pool: *const u32,
+            pool_length: usize,
+            verdicts: *mut u8,
+            verdicts_length: usize,
+        ) -> RawAnswer;
+        fn gabzeril_set_part(
+            rules: *const u32,
+            rules_length: usize,
+            counts: *const u32,
+            counts_length: usize,
+            table: *const u32,
+            table_length: usize,
+            mode: u32,
+            part: *mut u32,
+            part_length: usize,
+        ) -> RawAnswer;
+    }
+
+    pub fn check_set(rules: &[u32], counts: &[u32]) -> Answer {
+        answer(unsafe { gabzeril_check_set(lent(rules), rules.len(), lent(counts), counts.len()) })
+    }
+
+    pub fn set_verdicts(rules: &[u32], counts: &[u32], pool: &[u32], verdicts: &mut [u8]) -> Answer {
+        let length = verdicts.len();
+        answer(unsafe {
+            gabzeril_set_verdicts(
+                lent(rules),
+                rules.len(),
+                lent(counts),
+                counts.len(),
+                lent(pool),
+                pool.len(),
+                lent_mut(verdicts),
+                length,
+            )
+        })
+    }
+
+    pub fn set_part(rules: &[u32], counts: &[u32], table: &[u32], mode: u32, part: &mut [u32]) -> Answer {
+        let length = part.len();
+        answer(unsafe {
+            gabzeril_set_part(
+                lent(rules),
+                rules.len(),
+                lent(counts),
+                counts.len(),
+                lent(table),
+                table.len(),
+                mode,
+                lent_mut(part),
+                length,
+            )
+        })
     }
 }

@@ -1,6 +1,9 @@
 //! The largest accepted inputs, for calls on a small stack.
 
-use crate::checker::{words_of, Row, MOST_ENTRIES, MOST_NAME, MOST_NESTED, MOST_ROWS, MOST_VALUE};
+use crate::checker::{
+    words_of, Row, ENTRY_WORDS, MOST_ENTRIES, MOST_NAME, MOST_NESTED, MOST_ROWS, MOST_RULES, MOST_VALUE,
+};
+use crate::generate::Set;
 
 const COMMON: u32 = 1;
 /// The name of the rows at the end of a table.
@@ -16,6 +19,17 @@ pub fn rules() -> Vec<Vec<u32>> {
     }
     rules.extend([over_connectives(5, 2, 9), over_connectives(6, 3, 8), nots_first(5), nots_first(6)]);
     rules
+}
+
+/// Sets of as many rules as may be: of the rules above, from the first and from the last on; and of those of as
+/// many entries as may be alone.
+pub fn sets() -> Vec<Set> {
+    let (rules, mut reversed) = (rules(), rules());
+    reversed.reverse();
+    let mut longest = rules.clone();
+    longest.retain(|rule| rule.len() == MOST_ENTRIES * ENTRY_WORDS);
+    let of = |rules: Vec<Vec<u32>>| Set::of(&rules.into_iter().cycle().take(MOST_RULES).collect::<Vec<_>>());
+    [rules, reversed, longest].map(of).to_vec()
 }
 
 /// One chain of 128 entries: nots, then as many quantifiers as may be, then a comparison.
@@ -171,13 +185,18 @@ pub fn longest_pool() -> Vec<u32> {
 mod tests {
     use super::*;
     use crate::answer::Answer;
-    use crate::checker::{check_rule, check_table, verdict};
+    use crate::checker::{check_rule, check_set, check_table, verdict};
 
     #[test]
     fn all_are_accepted() {
         for rule in rules() {
             assert_eq!(check_rule(&rule), Answer::Done(rule.len() / 4));
         }
+        for set in sets() {
+            assert_eq!(check_set(&set.rules, &set.counts), Answer::Done(MOST_RULES));
+        }
+        let longest = sets().iter().map(|set| set.rules.len()).max();
+        assert_eq!(longest, Some(MOST_RULES * MOST_ENTRIES * ENTRY_WORDS));
         for table in tables().into_iter().chain([table_of_two(), table_of_ends(), longest_pool()]) {
             assert_eq!(check_table(&table), Answer::Done(MOST_ROWS));
         }

@@ -18,11 +18,12 @@ const TWO_DEVICES: [u32; 12] = [1, 1, 0, 0, 1, 1, 2, 1, 0, 0, 1, 2];
 const RULE_OF_ROOTS: [u32; 8] = [6, 1, 0, 1, 7, 0, 1, 1];
 
 /// What the header has beside constants.
-const OTHER_NAMES: [&str; 24] = [
+const OTHER_NAMES: [&str; 27] = [
     "GABZERIL_H",
     "gabzeril_answer",
     "gabzeril_check_files",
     "gabzeril_check_rule",
+    "gabzeril_check_set",
     "gabzeril_check_table",
     "gabzeril_device_rows",
     "gabzeril_entry_column",
@@ -37,6 +38,8 @@ const OTHER_NAMES: [&str; 24] = [
     "gabzeril_refusal_text",
     "gabzeril_report",
     "gabzeril_row_column",
+    "gabzeril_set_part",
+    "gabzeril_set_verdicts",
     "gabzeril_span",
     "gabzeril_verdict",
     "gabzeril_write_pool",
@@ -134,6 +137,7 @@ fn limits() -> Vec<(String, u64)> {
         ("ENTRY_LIMIT", MOST_ENTRIES as u64),
         ("ROW_LIMIT", MOST_ROWS as u64),
         ("NESTING_LIMIT", MOST_NESTED as u64),
+        ("SET_LIMIT", MOST_RULES as u64),
         ("NAME_LIMIT", MOST_NAME.into()),
         ("VALUE_LIMIT", MOST_VALUE.into()),
     ])
@@ -147,6 +151,7 @@ fn named<const N: usize>(pairs: [(&str, u64); N]) -> Vec<(String, u64)> {
 fn buffers() -> Vec<(String, u64)> {
     named([
         ("RULE_WORDS", (MOST_ENTRIES * ENTRY_WORDS) as u64),
+        ("SET_WORDS", (MOST_RULES * MOST_ENTRIES * ENTRY_WORDS) as u64),
         ("TABLE_WORDS", (MOST_ROWS * ROW_WORDS) as u64),
         ("RULE_FILE_BYTES", RULE.text_of(&longest_entry().repeat(MOST_ENTRIES)).len() as u64),
         ("POOL_FILE_BYTES", POOL.text_of(&longest_row().repeat(MOST_ROWS)).len() as u64),
@@ -233,6 +238,7 @@ fn refusals() -> Vec<(String, u64)> {
         ("REFUSED_ORDER", check_table(&[2, 1, 0, 0, 1, 1, 1, 1, 0, 0, 1, 2])),
         ("REFUSED_PARENT", check_table(&[1, 2, 1, 1, 1, 1])),
         ("REFUSED_DEPTH", check_table(&[1, 1, 0, 1, 1, 1])),
+        ("REFUSED_COUNTS", check_set(&RULE_OF_ROOTS, &[])),
         ("REFUSED_SIBLING", check_table(&[1, 1, 0, 0, 1, 1, 2, 1, 0, 0, 1, 1])),
         ("REFUSED_MODE", part(&RULE_OF_ROOTS, one_row, 0, &mut [])),
         ("REFUSED_DEVICE", part(&RULE_OF_ROOTS, &TWO_DEVICES, 1, &mut [])),
@@ -299,7 +305,7 @@ fn every_refusal_has_one_name_and_one_text() {
     named.sort();
     let numbers: Vec<u64> = [0].into_iter().chain(refusal_numbers()).collect();
     assert_eq!(named, numbers);
-    assert!([15, 20, 21, 22, 23, 24, 25].iter().all(|number| !named.contains(number)));
+    assert!([15, 21, 22, 23, 24, 25].iter().all(|number| !named.contains(number)));
     let texts = refusal_texts();
     assert_eq!(texts.len() as u64, numbers.last().expect("a number") + 1);
     // The numbers below the largest that are not used share one text, which no other has.

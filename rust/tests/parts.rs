@@ -1,7 +1,6 @@
 //! The parts, and demand 3 on lists of devices.
 #![cfg(feature = "parts")]
 
-use gabzeril_tests::checker::{rows_of, Row, MOST_VALUE};
 use gabzeril_tests::compare::{calls, run, Case, Tally};
 use gabzeril_tests::generate::*;
 use gabzeril_tests::random::Random;
@@ -79,16 +78,8 @@ fn damaged_request(random: &mut Random, (rule, device, mode): Request) -> Reques
         0 => (damaged_rule(random, &rule), device, mode),
         1 => (rule, damaged_table(random, &device), mode),
         2 => (rule, device, unknown_mode(random)),
-        _ => {
-            let (next, value) = (rows_of(&device)[0].device + 1, random.word() & MOST_VALUE);
-            let other = Row { device: next, at: 1, up: 0, deep: 0, name: 1, value };
-            (rule, [&device[..], &other.words()].concat(), mode)
-        }
+        _ => (rule, with_another_device(random, &device), mode),
     }
-}
-
-fn unknown_mode(random: &mut Random) -> u32 {
-    random.pick(&[0, 4, 5, 65_537, 1 << 31, u32::MAX])
 }
 
 #[test]
@@ -133,11 +124,22 @@ fn lists_of_devices() {
     use gabzeril_tests::demand3::{check_list, Calls};
     use gabzeril_tests::ffi;
 
-    let calls = Calls { part: ffi::part, join: ffi::join, verdict: ffi::verdict, marks: ffi::marks };
+    let calls = Calls {
+        part: |one, table, mode, part| ffi::part(&one.rules, table, mode, part),
+        join: ffi::join,
+        verdicts: |one, pool, verdicts| match ffi::verdict(&one.rules, pool) {
+            Answer::Done(verdict) => {
+                verdicts[0] = u8::try_from(verdict).unwrap_or(u8::MAX);
+                Answer::Done(1)
+            }
+            answer => answer,
+        },
+        marks: ffi::marks,
+    };
     let limit = Together { rows: 24, cost: 8_000 };
     run("lists_of_devices", 100_000, 100_000, |case| {
         let (rule, devices) = rule_and_devices(&mut case.random, limit);
-        let result = check_list(&calls, &mut case.random, &rule, &devices);
+        let result = check_list(&calls, &mut case.random, &Set::of(&[&rule]), &devices);
         case.compared(result.is_ok(), Answer::Done(devices.len()), || {
             format!("{rule:?} {devices:?}: {result:?}")
         });

@@ -1,6 +1,12 @@
 //! Each call on the largest accepted inputs, in a thread with 128 KiB of stack. Buffers are on the heap.
 
-#[cfg(any(feature = "lower", feature = "engine", feature = "parts", feature = "files_entry"))]
+#[cfg(any(
+    feature = "lower",
+    feature = "engine",
+    feature = "parts",
+    feature = "files_entry",
+    feature = "sets"
+))]
 use gabzeril_tests::{checker, ffi, largest};
 
 /// Runs a call in a small thread.
@@ -115,6 +121,28 @@ fn entry() {
             let bytes = on_a_small_stack(|| ffi::report(&rule, &pool, &mut text));
             assert_eq!(bytes, checker::report(&rule, &pool, &mut expected));
             assert_eq!(text, expected);
+        }
+    }
+}
+
+#[cfg(feature = "sets")]
+#[test]
+fn sets() {
+    for set in largest::sets() {
+        let (rules, counts) = (&set.rules, &set.counts);
+        assert_eq!(on_a_small_stack(|| ffi::check_set(rules, counts)), checker::check_set(rules, counts));
+        for table in largest::tables().into_iter().chain([largest::table_of_two(), largest::table_of_ends()])
+        {
+            let (mut expected, mut verdicts) = ([7; 33], [7; 33]);
+            let answer = checker::set_verdicts(rules, counts, &table, &mut expected);
+            let found = on_a_small_stack(|| ffi::set_verdicts(rules, counts, &table, &mut verdicts));
+            assert_eq!((found, verdicts), (answer, expected), "{set:?}");
+            for mode in 1..=3 {
+                let (mut expected, mut part) = (vec![7; table.len()], vec![7; table.len()]);
+                let answer = checker::set_part(rules, counts, &table, mode, &mut expected);
+                let found = on_a_small_stack(|| ffi::set_part(rules, counts, &table, mode, &mut part));
+                assert_eq!((found, part), (answer, expected), "{set:?} {mode}");
+            }
         }
     }
 }

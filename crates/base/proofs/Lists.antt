@@ -1,7 +1,7 @@
 -- Members of selections and of joined lists, tests over a list, and sublists. Assumes nothing.
 use Prim.Native.Nat.{suc, _≤_}
 use native.Mathlib.Omega.{arith}
-use mathlib.Core.Path.{_≡_, refl, sym, ap, subst, _∙_}
+use mathlib.Core.Path.{_≡_, refl, sym, ap, ap₂, subst, _∙_}
 use mathlib.Core.Logic.{_⊎_, inl, inr}
 use mathlib.Core.Bool.{Bool, true, false, _&&_, true≢false, false≢true}
 use mathlib.Core.List.{List, [], _∷_, _++_, map, append-assoc, List·Memᴰ·head, List·Memᴰ·tail, List·Memᴰ·not-nil, List·Memᴰ·cases-cons, List·Memᴰ·append-cases, Memᴰ·append-left, Memᴰ·append-right, Sublistᴰ, Sublistᴰ·slnil, Sublistᴰ·cons, Sublistᴰ·cons-cons, Sublistᴰ·nil-sublist}
@@ -154,6 +154,11 @@ concatMap-sub f g h Sublistᴰ·slnil = Sublistᴰ·slnil
 concatMap-sub {A} f g h (Sublistᴰ·cons-cons {a = x} {l₁ = xs} {l₂ = ys} e s) =
     subst (λ (z : A). Sublistᴰ (f x ++ concatMap f xs) (g z ++ concatMap g ys)) e (sub-both (h x (List·Memᴰ·head refl)) (concatMap-sub f g (λ y m. h y (List·Memᴰ·tail m)) s))
 concatMap-sub f g h (Sublistᴰ·cons {a = x} s) = sub-before (g x) (concatMap-sub f g h s)
+
+-- two functions that agree on a list's elements
+pub map-same : {A B : Type 0} (f g : A → B) (xs : List A) → ((x : A) → x ∈ xs → f x ≡ g x) → map f xs ≡ map g xs
+map-same f g [] h = refl
+map-same f g (x ∷ xs) h = ap₂ _∷_ (h x (List·Memᴰ·head refl)) (map-same f g xs (λ y m. h y (List·Memᴰ·tail m)))
 
 pub map-sub : {A B : Type 0} (f : A → B) {es ds : List A} → Sublistᴰ es ds → Sublistᴰ (map f es) (map f ds)
 map-sub f Sublistᴰ·slnil = Sublistᴰ·slnil

@@ -1,10 +1,21 @@
 -- A loop that sums a function over the numbers below n: its invariant, kept by each turn. Assumes nothing.
-use Prim.Native.Nat.{ℕ, _+_, _*_, _≤_, _<_}
+use Prim.Native.Nat.{ℕ, zero, suc, _+_, _*_, _≤_, _<_}
 use mathlib.Core.Path.{_≡_, refl, ap, _∙_}
 use native.Mathlib.Nat.{mul-add}
 use native.Mathlib.Numerals.{add-one}
 use native.Mathlib.Omega.{arith}
+use lib.Dec.{eqb}
+use borrow.Author.Tests.{eqb-true, eqb-false}
 use Rattle.base.specs.Search.{sumBelow}
+use Rattle.base.proofs.Bools.{either}
+
+-- a longer sum is no smaller
+pub sum-grows : (f : ℕ → ℕ) (i n : ℕ) → i ≤ n → sumBelow f i ≤ sumBelow f n
+unfolding sumBelow
+sum-grows f i zero h = let e : i ≡ 0 = omega arith in rw e (omega arith)
+sum-grows f i (suc n) h = either (eqb i (suc n))
+    (λ e. rw (eqb-true i (suc n) e) (omega arith))
+    (λ e. let apart : ¬ (i ≡ suc n) = eqb-false i (suc n) e in let shorter = sum-grows f i n (omega arith) in omega arith)
 
 -- the numbers below i are summed, each at most `most`
 pub record Summed (f : ℕ → ℕ) (most n i sum : ℕ) : Type 0 where

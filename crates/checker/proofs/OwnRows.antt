@@ -2,7 +2,7 @@
 use Prim.Native.Nat.{ℕ, zero, suc, _+_, _-_, _*_, _≤_, _<_}
 use mathlib.Core.Path.{_≡_, refl, sym, ap, ap₂, subst, _∙_}
 use mathlib.Core.Bool.{Bool, true, false, cond, not}
-use mathlib.Core.List.{List, _++_, append-nil}
+use mathlib.Core.List.{List, [], _∷_, _++_, append-nil}
 use native.Mathlib.Numerals.{add-one}
 use native.Mathlib.Omega.{arith}
 use lib.ListN.{length, take, drop, take-append-drop, length-drop, replicate, length-replicate}
@@ -15,7 +15,7 @@ use Rattle.base.proofs.Lists.{select-append, select-all, select-none, select-ou
 use Rattle.base.proofs.Search.{Passed, begin, miss, first-le}
 use Rattle.tables.specs.Answers.{value, unless}
 use Rattle.tables.specs.Words.{rowWords, rowAt, rowCount, rows}
-use Rattle.tables.specs.Rules.{acceptedRule}
+use Rattle.tables.specs.Rules.{checkRule, acceptedRule}
 use Rattle.tables.specs.Tables.{rowLimit, acceptedTable}
 use Rattle.tables.specs.Devices.{fromDevice}
 use Rattle.tables.specs.declared.Row.{Row}
@@ -135,11 +135,11 @@ module _ (t : List ℕ) (ok : acceptedTable t ≡ true) (d : ℕ) where
   own-few = omega (arith, length-select (λ r. eqb (r .device) d) (rows t), length-rows t, few-rows t ok)
 
 -- ---- a part has at most all rows
-part-few : (F : Formula) (mode : ℕ) (D : List Row) → length (partOf F mode D) ≤ length D
+part-few : (Fs : List Formula) (mode : ℕ) (D : List Row) → length (partOf Fs mode D) ≤ length D
 unfolding partOf branchPart fullPart partBy
-part-few F mode D = go (eqb mode 1) (eqb mode 2)
+part-few Fs mode D = go (eqb mode 1) (eqb mode 2)
   where
-    go : (a b : Bool) → length (cond a D (cond b (branchPart F D) (fullPart F D))) ≤ length D
+    go : (a b : Bool) → length (cond a D (cond b (branchPart Fs D) (fullPart Fs D))) ≤ length D
     go true b = omega arith
     go false true = length-select _ D
     go false false = length-select _ D
@@ -147,7 +147,7 @@ part-few F mode D = go (eqb mode 1) (eqb mode 2)
 -- ---- the call for the part of one device of an accepted pool
 module _ (rule t : List ℕ) (rule-ok : acceptedRule rule ≡ true) (ok : acceptedTable t ≡ true) (d mode : ℕ) (low : 1 ≤ mode) (high : mode ≤ 3) where
   pub count-few : partCount (formula rule) mode t d ≤ rowLimit
-  count-few = omega (arith, part-few (formula rule) mode (deviceRows (rows t) d), own-few t ok d)
+  count-few = omega (arith, part-few (formula rule ∷ []) mode (deviceRows (rows t) d), own-few t ok d)
 
   pub part-count : (words : List ℕ) (room : ℕ) (a : Answer) → words ≡ wordsOf (deviceRows (rows t) d) → rowLimit * rowWords ≤ room
       → a ≡ partAnswer rule words mode room → (v : ℕ) → v ≡ value a → (v ≡ partCount (formula rule) mode t d) × (v ≤ rowLimit)
@@ -155,12 +155,12 @@ module _ (rule t : List ℕ) (rule-ok : acceptedRule rule ≡ true) (ok : accept
       let D = deviceRows (rows t) d in
       let out : List ℕ = replicate room 0 in
       let long : room ≡ length out = sym (length-replicate {A = ℕ} room 0) in
-      let fits : length (wordsOf (partOf (formula rule) mode D)) ≤ length out = omega (arith, length-words (partOf (formula rule) mode D), count-few) in
+      let fits : length (wordsOf (partOf (formula rule ∷ []) mode D)) ≤ length out = omega (arith, length-words (partOf (formula rule ∷ []) mode D), count-few) in
       let w : v ≡ partCount (formula rule) mode t d = k ∙ ap value (
       q ∙ ap₂ (λ (l : List ℕ) (n : ℕ). partAnswer rule l mode n) is long
-      ∙ part-is rule (wordsOf D) rule-ok (own-accepted t ok d) d (λ r m. eqb-true (r .device) d (select-out (λ x. eqb (x .device) d) (rows t) (subst (λ (l : List Row). r ∈ l) (rows-words D) m) .1)) mode low high out
-      ∙ ap (λ (l : List Row). unless (leb (length (wordsOf (partOf (formula rule) mode l))) (length out)) 17 (Done (length (partOf (formula rule) mode l)))) (rows-words D)
-      ∙ unless-passed (leb (length (wordsOf (partOf (formula rule) mode D))) (length out)) 17 _ (le-leb _ _ fits)
+      ∙ part-is (checkRule rule) rule-ok (formula rule ∷ []) (wordsOf D) (own-accepted t ok d) d (λ r m. eqb-true (r .device) d (select-out (λ x. eqb (x .device) d) (rows t) (subst (λ (l : List Row). r ∈ l) (rows-words D) m) .1)) mode low high out
+      ∙ ap (λ (l : List Row). unless (leb (length (wordsOf (partOf (formula rule ∷ []) mode l))) (length out)) 17 (Done (length (partOf (formula rule ∷ []) mode l)))) (rows-words D)
+      ∙ unless-passed (leb (length (wordsOf (partOf (formula rule ∷ []) mode D))) (length out)) 17 _ (le-leb _ _ fits)
       ) in
       (w, omega (arith, count-few))
 

@@ -43,7 +43,7 @@ begins t i = eqb i 0 || not (eqb (rowAt t i .device) (rowAt t (i - 1) .device))
 
 -- the rows of the part of a device, which is made on that device's rows apart
 abbrev pub partCount : Formula → ℕ → List ℕ → ℕ → ℕ
-partCount F mode t d = length (partOf F mode (deviceRows (rows t) d))
+partCount F mode t d = length (partOf (F ∷ []) mode (deviceRows (rows t) d))
 
 -- a device is counted at its first row
 abbrev pub countAt : Formula → ℕ → List ℕ → ℕ → ℕ

@@ -7,4 +7,5 @@ pub mod Steps
 pub mod Marking
 pub mod Explained
 pub mod Answered
+pub mod SetBytes
 pub mod Settled

@@ -1,8 +1,11 @@
-// The calls: the verdict and the marks of a rule on a pool.
+// The calls: the verdict and the marks of a rule on a pool, and the verdicts of a set of rules.
 use super::bindings::Bindings;
 use super::evaluator::holds;
 use super::reasons::explain;
+use super::verdicts::one_if;
+use super::verdicts::write_verdicts;
 use super::words::row_count;
+use sets::check_set;
 use tables::Answer;
 use tables::check_rule;
 use tables::check_table;
@@ -11,24 +14,15 @@ ghost use mathlib.Core.List.{_++_};
 ghost use Prim.Native.Nat.{_≤_};
 ghost use lib.ListN.{length, drop, replicate};
 ghost use Rattle.tables.specs.Answers.{andThen};
-ghost use Rattle.tables.specs.Rules.{one, checkRule};
 ghost use Rattle.tables.specs.Tables.{checkTable};
-ghost use Rattle.logic.specs.Verdict.{verdictAnswer};
+ghost use Rattle.logic.specs.Verdict.{verdictAnswer, setVerdictsAnswer, setVerdictsOut};
 ghost use Rattle.logic.specs.Marks.{marksAnswer, marksOut};
 
-// The number of a verdict.
-fn one_if(verdict: bool) -> usize
-    ensures { λ r. ⌜ r ≡ one verdict ⌝ }
+// The answer of a rule's or a set's checks, then that of a table's.
+fn then_table(checked: Answer, pool: &[u32]) -> Answer
+    ensures { λ r. ⌜ r ≡ andThen checked (checkTable (now (pool .entry))) ⌝ }
 {
-    if verdict { 1 } else { 0 }
-}
-
-// The checks of a rule, then those of a table.
-fn check_both(rule: &[u32], pool: &[u32]) -> Answer
-    ensures { λ r. ⌜ r ≡ andThen (checkRule (now (rule .entry))) (checkTable (now (pool .entry))) ⌝ }
-{
-    let answer = check_rule(rule);
-    match answer {
+    match checked {
         Answer::Done(_) => check_table(pool),
         Answer::Refused { number, place } => Answer::Refused { number, place },
     }
@@ -38,7 +32,7 @@ fn check_both(rule: &[u32], pool: &[u32]) -> Answer
 pub fn verdict(rule: &[u32], pool: &[u32]) -> Answer
     ensures { λ r. ⌜ r ≡ verdictAnswer (now (rule .entry)) (now (pool .entry)) ⌝ }
 {
-    let answer = check_both(rule, pool);
+    let answer = then_table(check_rule(rule), pool);
     match answer {
         Answer::Done(_) => Answer::Done(one_if(holds(rule, pool, Bindings::none(), 0))),
         Answer::Refused { number, place } => Answer::Refused { number, place },
@@ -62,7 +56,7 @@ pub fn marks(rule: &[u32], pool: &[u32], out: &mut [u8]) -> Answer
     ensures { λ r. ⌜ r ≡ marksAnswer (now (rule .entry)) (now (pool .entry)) (length (now (out .entry))) ⌝ }
     ensures { λ _. ⌜ now (out .exit) ≡ marksOut (now (rule .entry)) (now (pool .entry)) (now (out .entry)) ⌝ }
 {
-    let answer = check_both(rule, pool);
+    let answer = then_table(check_rule(rule), pool);
     match answer {
         Answer::Done(_) => {
             let n = row_count(pool);
@@ -77,6 +71,27 @@ pub fn marks(rule: &[u32], pool: &[u32], out: &mut [u8]) -> Answer
             let verdict = holds(rule, pool, b, 0);
             explain(rule, pool, b, 0, verdict, out);
             Answer::Done(one_if(verdict))
+        }
+        Answer::Refused { number, place } => Answer::Refused { number, place },
+    }
+}
+
+// The verdicts of a set of rules on a pool, a byte per rule, and the number of rules, or the refusal.
+pub fn set_verdicts(rules: &[u32], counts: &[u32], pool: &[u32], out: &mut [u8]) -> Answer
+    ensures { λ r. ⌜ r ≡ setVerdictsAnswer (now (rules .entry)) (now (counts .entry)) (now (pool .entry)) (length (now (out .entry))) ⌝ }
+    ensures { λ _. ⌜ now (out .exit) ≡ setVerdictsOut (now (rules .entry)) (now (counts .entry)) (now (pool .entry)) (now (out .entry)) ⌝ }
+{
+    let answer = then_table(check_set(rules, counts), pool);
+    match answer {
+        Answer::Done(_) => {
+            if out.len() < counts.len() {
+                return Answer::Refused {
+                    number: 17,
+                    place: 0,
+                };
+            }
+            write_verdicts(rules, counts, pool, out);
+            Answer::Done(counts.len())
         }
         Answer::Refused { number, place } => Answer::Refused { number, place },
     }

@@ -7,9 +7,11 @@ mod connectives;
 mod evaluator;
 mod ranges;
 mod reasons;
+mod verdicts;
 mod words;
 
 pub use bindings::Bindings;
 pub use calls::marks;
+pub use calls::set_verdicts;
 pub use calls::verdict;
 pub use comparisons::compare_values;

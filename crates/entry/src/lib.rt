@@ -5,10 +5,11 @@ ghost use lib.ListN.{length};
 ghost use Rattle.tables.specs.Rules.{checkRule};
 ghost use Rattle.tables.specs.Tables.{checkTable};
 ghost use Rattle.tables.specs.Joining.{joinAnswer, joinPool};
+ghost use Rattle.sets.specs.Sets.{checkSet};
 ghost use Rattle.tables.specs.Files.{readRule, readRuleOut, readPool, readPoolOut, writeRule, writeRuleOut, writePool, writePoolOut};
-ghost use Rattle.logic.specs.Verdict.{verdictAnswer};
+ghost use Rattle.logic.specs.Verdict.{verdictAnswer, setVerdictsAnswer, setVerdictsOut};
 ghost use Rattle.logic.specs.Marks.{marksAnswer, marksOut};
-ghost use Rattle.logic.specs.Parts.{partAnswer, partOut};
+ghost use Rattle.logic.specs.Parts.{partAnswer, partOut, setPartAnswer, setPartOut};
 ghost use Rattle.checker.specs.Files.{filesAnswer, returned};
 ghost use Rattle.checker.specs.Report.{reportLength, reportOut};
 ghost use Rattle.entry.specs.Interface.{answered, spanned};
@@ -129,6 +130,40 @@ pub extern "C" fn gabzeril_part(rule: &[u32], table: &[u32], mode: u32, part: &m
     ensures words { λ r. ⌜ now (part .exit) ≡ partOut (now (rule .entry)) (now (table .entry)) mode (now (part .entry)) ⌝ }
 {
     c_answer(parts::part(rule, table, mode, part))
+}
+
+#[no_mangle]
+pub extern "C" fn gabzeril_check_set(rules: &[u32], counts: &[u32]) -> CAnswer
+    ensures { λ r. ⌜ r ≡ answered (checkSet (now (rules .entry)) (now (counts .entry))) ⌝ }
+{
+    c_answer(sets::check_set(rules, counts))
+}
+
+#[no_mangle]
+pub extern "C" fn gabzeril_set_verdicts(
+    rules: &[u32],
+    counts: &[u32],
+    pool: &[u32],
+    verdicts: &mut [u8],
+) -> CAnswer
+    ensures answer { λ r. ⌜ r ≡ answered (setVerdictsAnswer (now (rules .entry)) (now (counts .entry)) (now (pool .entry)) (length (now (verdicts .entry)))) ⌝ }
+    ensures bytes { λ r. ⌜ now (verdicts .exit) ≡ setVerdictsOut (now (rules .entry)) (now (counts .entry)) (now (pool .entry)) (now (verdicts .entry)) ⌝ }
+{
+    c_answer(engine::set_verdicts(rules, counts, pool, verdicts))
+}
+
+#[no_mangle]
+pub extern "C" fn gabzeril_set_part(
+    rules: &[u32],
+    counts: &[u32],
+    table: &[u32],
+    mode: u32,
+    part: &mut [u32],
+) -> CAnswer
+    ensures answer { λ r. ⌜ r ≡ answered (setPartAnswer (now (rules .entry)) (now (counts .entry)) (now (table .entry)) mode (length (now (part .entry)))) ⌝ }
+    ensures words { λ r. ⌜ now (part .exit) ≡ setPartOut (now (rules .entry)) (now (counts .entry)) (now (table .entry)) mode (now (part .entry)) ⌝ }
+{
+    c_answer(parts::set_part(rules, counts, table, mode, part))
 }
 
 #[no_mangle]

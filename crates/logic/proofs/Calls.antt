@@ -1,4 +1,4 @@
--- What the calls for marks and for parts return and write on accepted input, by the definitions on rows. Assumes nothing.
+-- What the calls for verdicts, marks and parts return and write on accepted input, by the definitions on rows. Assumes nothing.
 use Prim.Native.Nat.{ℕ, zero, suc, _+_, _*_, _≤_, _<_}
 use native.Mathlib.Omega.{arith}
 use mathlib.Core.Path.{_≡_, refl, sym, ap, subst, _∙_}
@@ -11,21 +11,23 @@ use lib.Dec.{leb}
 use borrow.Author.Tests.{le-leb, eq-eqb}
 use Rattle.base.specs.Lists.{_∈_}
 use Rattle.base.proofs.Bools.{and-both}
-use Rattle.tables.specs.Answers.{isDone, value, unless, output}
+use Rattle.tables.specs.Answers.{isDone, value, unless, fitting, output}
 use Rattle.tables.specs.Words.{rowWords, rowAt, rowCount, rowsFrom, rows}
 use Rattle.tables.specs.Rules.{one, checkRule, acceptedRule}
 use Rattle.tables.specs.Tables.{checkTable, acceptedTable}
 use Rattle.tables.specs.declared.Row.{Row}
 use Rattle.tables.specs.declared.Answer.{Answer}
 use Rattle.tables.specs.declared.Answer.the-variants.{Done}
+use Rattle.sets.specs.Sets.{rulesOf, checkSet, acceptedSet}
+use Rattle.sets.proofs.Sets.{length-rules}
 use Rattle.tables.proofs.Answers.{andThen-passed, unless-passed, unlessAny-passed}
 use Rattle.tables.proofs.Proper.{rows-proper}
 use Rattle.tables.proofs.RowLists.{length-rows, row-in}
-use Rattle.logic.specs.Formulas.{formula}
-use Rattle.logic.specs.Verdict.{verdict, verdictAnswer}
+use Rattle.logic.specs.Formulas.{Formula, formula, formulasOf}
+use Rattle.logic.specs.Verdict.{verdict, verdictAnswer, verdictBytes, setVerdictsAnswer, setVerdictsOut}
 use Rattle.logic.specs.Marks.{marked, markBytes, marksAnswer, marksOut}
-use Rattle.logic.specs.Parts.{partOf, wordsOf, otherDevice, partAnswer, partOut}
-use Rattle.logic.specs.Demand.{OnlyShort, partRows, PartIsCut}
+use Rattle.logic.specs.Parts.{partOf, wordsOf, otherDevice, sendAnswer, sendOut}
+use Rattle.logic.specs.Demand.{IsCut, OnlyShort, PartIsCut}
 use Rattle.logic.proofs.Words.{length-words, words-whole, rows-words}
 use Rattle.logic.proofs.Cuts.{mode-is-cut}
 
@@ -70,10 +72,32 @@ module _ (rule table : List ℕ) (rule-ok : acceptedRule rule ≡ true) (table-o
       ∙ byte-from (λ r. one (marked (formula rule) (rows table) r)) 0 (rowCount table) i h
       ∙ ap (λ (k : ℕ). one (marked (formula rule) (rows table) (rowAt table k))) (omega arith)
 
-  -- ---- parts of one device's table
+-- ---- a set's verdicts: one byte per rule
+pub verdict-count : (rules counts : List ℕ) (T : List Row) → length (verdictBytes (formulasOf rules counts) T) ≡ length counts
+verdict-count rules counts T =
+    length-map (formulasOf rules counts) (λ F. one (verdict F T))
+    ∙ length-map (rulesOf rules counts) formula ∙ length-rules rules counts (length counts) 0
+
+module _ (rules counts table : List ℕ) (set-ok : acceptedSet rules counts ≡ true) (table-ok : acceptedTable table ≡ true) where
+  abbrev bytes : List ℕ
+  bytes = verdictBytes (formulasOf rules counts) (rows table)
+
+  pub verdicts-are : (room : ℕ) → setVerdictsAnswer rules counts table room ≡ fitting bytes room
+  unfolding setVerdictsAnswer
+  verdicts-are room = andThen-passed (checkSet rules counts) _ set-ok ∙ andThen-passed (checkTable table) _ table-ok
+
+  pub bytes-are : (out : List ℕ) → setVerdictsOut rules counts table out ≡ output (fitting bytes (length out)) bytes out
+  unfolding setVerdictsOut
+  bytes-are out = ap (λ (a : Answer). output a bytes out) (verdicts-are (length out))
+
+-- ---- the part of one device's table, for what has passed its own checks
+module _ (checked : Answer) (checked-ok : isDone checked ≡ true) (Fs : List Formula) (table : List ℕ) (table-ok : acceptedTable table ≡ true) where
   module _ (number : ℕ) (own : (r : Row) → r ∈ rows table → r .device ≡ number) (mode : ℕ) (low : 1 ≤ mode) (high : mode ≤ 3) (out : List ℕ) where
     abbrev sent : List Row
-    sent = partOf (formula rule) mode (rows table)
+    sent = partOf Fs mode (rows table)
+
+    abbrev answer : Answer
+    answer = sendAnswer checked Fs table mode (length out)
 
     one-device : (i : ℕ) → i < rowCount table → otherDevice table i ≡ false
     one-device i h =
@@ -81,32 +105,43 @@ module _ (rule table : List ℕ) (rule-ok : acceptedRule rule ≡ true) (table-o
         ap not (eq-eqb (rowAt table i .device) (rowAt table 0 .device) e)
 
     -- only a short output is left to refuse
-    pub part-is : partAnswer rule table mode (length out) ≡ unless (leb (length (wordsOf sent)) (length out)) 17 (Done (length sent))
-    unfolding partAnswer
+    pub part-is : answer ≡ unless (leb (length (wordsOf sent)) (length out)) 17 (Done (length sent))
+    unfolding sendAnswer
     part-is =
-        andThen-passed (checkRule rule) _ rule-ok
+        andThen-passed checked _ checked-ok
         ∙ andThen-passed (checkTable table) _ table-ok
         ∙ unless-passed (leb 1 mode && leb mode 3) 13 _ (and-both (leb 1 mode) (leb mode 3) (le-leb 1 mode low) (le-leb mode 3 high))
         ∙ unlessAny-passed (otherDevice table) 14 (rowCount table) _ one-device
 
-    done-is : (b : Bool) → partAnswer rule table mode (length out) ≡ unless b 17 (Done (length sent)) → isDone (partAnswer rule table mode (length out)) ≡ true → partAnswer rule table mode (length out) ≡ Done (length sent)
+    done-is : (b : Bool) → answer ≡ unless b 17 (Done (length sent)) → isDone answer ≡ true → answer ≡ Done (length sent)
     done-is true e d = e
     done-is false e d = absurd (false≢true (sym (ap isDone e) ∙ d))
 
-    part-words : isDone (partAnswer rule table mode (length out)) ≡ true → partRows rule table mode out ≡ wordsOf sent
-    unfolding partOut
+    part-words : isDone answer ≡ true → take (rowWords * value answer) (sendOut checked Fs table mode out) ≡ wordsOf sent
+    unfolding sendOut
     part-words d =
-        let e : partAnswer rule table mode (length out) ≡ Done (length sent) = done-is (leb (length (wordsOf sent)) (length out)) part-is d in
+        let e : answer ≡ Done (length sent) = done-is (leb (length (wordsOf sent)) (length out)) part-is d in
         ap (λ (a : Answer). take (rowWords * value a) (cond (isDone a) (wordsOf sent ++ drop (length (wordsOf sent)) out) out)) e
         ∙ take-at (wordsOf sent) (drop (length (wordsOf sent)) out) (rowWords * length sent) (length-words sent)
 
-    pub part-is-cut : PartIsCut rule table mode out
-    part-is-cut = record {
-      is-cut = record { whole-rows = words-whole sent; is-cut = rw (rows-words sent) (mode-is-cut (formula rule) (rows table) (rows-proper table table-ok) mode) };
-      only-short = subst OnlyShort (sym part-is) (go (leb (length (wordsOf sent)) (length out)));
-      writes = part-words;
-    }
+    part-short : OnlyShort answer
+    part-short = subst OnlyShort (sym part-is) (go (leb (length (wordsOf sent)) (length out)))
       where
         go : (b : Bool) → OnlyShort (unless b 17 (Done (length sent)))
         go true = inl refl
         go false = inr refl
+
+    part-cut : IsCut Fs table (wordsOf sent)
+    part-cut = record { whole-rows = words-whole sent; is-cut = rw (rows-words sent) (mode-is-cut Fs (rows table) (rows-proper table table-ok) mode) }
+
+-- for a set
+module _ (rules counts table : List ℕ) (set-ok : acceptedSet rules counts ≡ true) (table-ok : acceptedTable table ≡ true) where
+  pub part-is-cut : (number : ℕ) → ((r : Row) → r ∈ rows table → r .device ≡ number) → (mode : ℕ) → 1 ≤ mode → mode ≤ 3 → (out : List ℕ) → PartIsCut rules counts table mode out
+  part-is-cut number own mode low high out =
+      let checked = checkSet rules counts in
+      let Fs = formulasOf rules counts in
+      record {
+        is-cut = part-cut checked set-ok Fs table table-ok number own mode low high out;
+        only-short = part-short checked set-ok Fs table table-ok number own mode low high out;
+        writes = part-words checked set-ok Fs table table-ok number own mode low high out;
+      }

@@ -13,7 +13,7 @@ use Rattle.tables.specs.declared.Row.{Row}
 use Rattle.tables.proofs.Proper.{Proper}
 use Rattle.logic.specs.Formulas.{Formula, negation, joined, quantified, compared}
 use Rattle.logic.specs.Verdict.{Bindings}
-use Rattle.logic.specs.Parts.{Chains, noChains, chainsWith, reach, reachedIn, spareIn, reached, spare, ancestors, partBy, branchPart, fullPart, partOf}
+use Rattle.logic.specs.Parts.{Chains, noChains, chainsWith, reach, reachedIn, spareIn, reached, spare, reachedByAny, spareForEach, ancestors, partBy, branchPart, fullPart, partOf}
 use Rattle.logic.specs.Demand.{Under, Cut}
 use Rattle.logic.proofs.Ancestors.{ancestor-under, ancestor-in, under-ancestor, under-trans}
 
@@ -72,12 +72,34 @@ module _ (D : List Row) (ok : Proper D) (isSpare t : Row → Bool) (failing : (r
 pub all-is-cut : (isSpare : Row → Bool) (D : List Row) → Cut isSpare D D
 all-is-cut isSpare D = record { keeps = Sublistᴰ·refl D; left-out = λ r i n. absurd (n i); sent = λ r s i j n u. n j }
 
--- ---- the three kinds of part
-pub mode-is-cut : (F : Formula) (D : List Row) → Proper D → (mode : ℕ) → Cut (spare F D) D (partOf F mode D)
-unfolding partOf branchPart fullPart
-mode-is-cut F D ok mode = first (eqb mode 1) (eqb mode 2)
+-- what is spare by one test is spare by a weaker one
+pub cut-weaker : {p q : Row → Bool} {D C : List Row} → ((r : Row) → p r ≡ true → q r ≡ true) → Cut p D C → Cut q D C
+cut-weaker {p} {q} {D} {C} h c = record { keeps = c .keeps; left-out = λ r i n. go r (c .left-out r i n); sent = c .sent }
   where
-    first : (b c : Bool) → Cut (spare F D) D (cond b D (cond c (partBy (reached F D) D) (partBy (λ r. not (spare F D r)) D)))
-    first true c = all-is-cut (spare F D) D
-    first false true = part-is-cut D ok (spare F D) (reached F D) (unreached F D)
-    first false false = part-is-cut D ok (spare F D) (λ r. not (spare F D r)) (λ r e. not-false (spare F D r) e)
+    go : (r : Row) → (p r ≡ true) ⊎ ((s : Row) × (s ∈ D) × (¬ (s ∈ C)) × Under D r s) → (q r ≡ true) ⊎ ((s : Row) × (s ∈ D) × (¬ (s ∈ C)) × Under D r s)
+    go r (inl e) = inl (h r e)
+    go r (inr u) = inr u
+
+-- ---- for a set of rules
+pub spare-for : (Fs : List Formula) (D : List Row) (r : Row) → spareForEach Fs D r ≡ true → (F : Formula) → F ∈ Fs → spare F D r ≡ true
+unfolding spareForEach
+spare-for Fs D r e F m = all-at (λ G. spare G D r) e m
+
+pub cut-for : {Fs : List Formula} {D C : List Row} → Cut (spareForEach Fs D) D C → (F : Formula) → F ∈ Fs → Cut (spare F D) D C
+cut-for {Fs} {D} c F m = cut-weaker (λ r e. spare-for Fs D r e F m) c
+
+unreached-set : (Fs : List Formula) (D : List Row) (r : Row) → reachedByAny Fs D r ≡ false → spareForEach Fs D r ≡ true
+unfolding reachedByAny spareForEach
+unreached-set [] D r e = refl
+unreached-set (F ∷ Fs) D r e =
+    and-both _ _ (unreached F D r (or-left _ (any (λ G. reached G D r) Fs) e)) (unreached-set Fs D r (or-right (reached F D r) _ e))
+
+-- ---- the three kinds of part
+pub mode-is-cut : (Fs : List Formula) (D : List Row) → Proper D → (mode : ℕ) → Cut (spareForEach Fs D) D (partOf Fs mode D)
+unfolding partOf branchPart fullPart
+mode-is-cut Fs D ok mode = first (eqb mode 1) (eqb mode 2)
+  where
+    first : (b c : Bool) → Cut (spareForEach Fs D) D (cond b D (cond c (partBy (reachedByAny Fs D) D) (partBy (λ r. not (spareForEach Fs D r)) D)))
+    first true c = all-is-cut (spareForEach Fs D) D
+    first false true = part-is-cut D ok (spareForEach Fs D) (reachedByAny Fs D) (unreached-set Fs D)
+    first false false = part-is-cut D ok (spareForEach Fs D) (λ r. not (spareForEach Fs D r)) (λ r e. not-false (spareForEach Fs D r) e)

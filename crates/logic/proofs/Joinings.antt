@@ -23,7 +23,7 @@ use Rattle.tables.proofs.Answers.{andThen-passed, unless-passed, unlessAny-pass
 use Rattle.tables.proofs.Proper.{Above, Rising, rising-across, rows-proper}
 use Rattle.tables.proofs.RowLists.{row-in, rows-append}
 use Rattle.logic.specs.Formulas.{Formula}
-use Rattle.logic.specs.Parts.{wordsOf, spare}
+use Rattle.logic.specs.Parts.{wordsOf, spareForEach}
 use Rattle.logic.specs.Demand.{Device, under-parent, Cut, IsCut, Sends, dump, join, after, answers, parts, taken, OnlyShort}
 use Rattle.logic.proofs.Words.{whole-is, is-whole, words-rows}
 use Rattle.logic.proofs.Members.{member, in-member, not-member}
@@ -51,7 +51,7 @@ sent es = concatMap (λ d. d .cut) es
 append-cut : (es : List Device) (d : Device) → sent (es ++ (d ∷ [])) ≡ sent es ++ d .cut
 append-cut es d = concatMap-append (λ e. e .cut) es (d ∷ []) ∙ ap (_++_ (sent es)) (append-nil (d .cut))
 
-module _ (F : Formula) (ds : List Device) (twice : NoneTwice ds) (sends : (d : Device) → d ∈ ds → Sends F d) (ok : acceptedTable (dump ds) ≡ true) where
+module _ (Fs : List Formula) (ds : List Device) (twice : NoneTwice ds) (sends : (d : Device) → d ∈ ds → Sends Fs d) (ok : acceptedTable (dump ds) ≡ true) where
   own-rows : Own ownOf ds
   own-rows d m = sends d m .own-rows
 
@@ -59,7 +59,7 @@ module _ (F : Formula) (ds : List Device) (twice : NoneTwice ds) (sends : (d : D
   own-sum = rows-concat (λ d. d .table) ds (λ d m. sends d m .whole-rows)
 
   -- ---- some of the devices, with any cut of each
-  module _ (f : Device → List ℕ) (cuts : (d : Device) → d ∈ ds → IsCut F (d .table) (f d)) where
+  module _ (f : Device → List ℕ) (cuts : (d : Device) → d ∈ ds → IsCut Fs (d .table) (f d)) where
     pub some-accepted : (es : List Device) → Sublistᴰ es ds → acceptedTable (concatMap f es) ≡ true
     some-accepted es s =
         subst (λ (t : List ℕ). acceptedTable t ≡ true) (ap wordsOf (sym (rows-concat f es whole-f)) ∙ words-rows (concatMap f es) (whole-concat f es whole-f))
@@ -69,7 +69,7 @@ module _ (F : Formula) (ds : List Device) (twice : NoneTwice ds) (sends : (d : D
         whole-f : (d : Device) → d ∈ es → whole rowWords (f d) ≡ true
         whole-f d m = cuts d (sub-in s m) .whole-rows
 
-        cut : (d : Device) → d ∈ es → Cut (spare F (ownOf d)) (ownOf d) (rows (f d))
+        cut : (d : Device) → d ∈ es → Cut (spareForEach Fs (ownOf d)) (ownOf d) (rows (f d))
         cut d m = cuts d (sub-in s m) .is-cut
 
         closed : (r p : Row) → r ∈ concatMap (λ d. rows (f d)) es → p ∈ rows (dump ds) → isParent r p ≡ true → p ∈ concatMap (λ d. rows (f d)) es

@@ -14,6 +14,7 @@ pub mod Selections
 pub mod Joinings
 pub mod Calls
 pub mod Demand
+pub mod Sets
 pub mod Formulas
 pub mod EntryTree
 pub mod Nesting

@@ -19,7 +19,7 @@ use Rattle.logic.specs.Formulas.{Formula, negation, joined, quantified, 
 use Rattle.logic.specs.Verdict.{Place, nothing, bound, Bindings, bind, ranges}
 use Rattle.logic.specs.Reading.{Reading, firstTest, secondTest}
 use Rattle.logic.specs.Elsewhere.{bodyReading}
-use Rattle.logic.specs.Parts.{Chains, noChains, chainsWith, reach, partOf, wordsOf, otherDevice, partAnswer, partOut}
+use Rattle.logic.specs.Parts.{Chains, noChains, chainsWith, reach, partOf, wordsOf, otherDevice, sendAnswer, sendOut, partAnswer, partOut}
 use Rattle.logic.proofs.Monotone.{one-way}
 
 -- ---- the former condition: in a body read for spare rows, one quantifier over roots meets both its first and its second test
@@ -88,7 +88,7 @@ never-met F D = any-none (contradictsIn F D 0 noChains) D (λ r m. never-in F D 
 -- ---- the former answer, and the output after it
 module _ (rule table : List ℕ) (mode : ℕ) where
   abbrev sent : List Row
-  sent = partOf (formula rule) mode (rows table)
+  sent = partOf (formula rule ∷ []) mode (rows table)
 
   abbrev fits : ℕ → Answer
   fits room = unless (leb (length (wordsOf sent)) room) 17 (Done (length sent))
@@ -109,11 +109,11 @@ module _ (rule table : List ℕ) (mode : ℕ) where
 
   -- on all inputs, in every mode
   pub answer-as-before : (room : ℕ) → partAnswer rule table mode room ≡ formerAnswer room
-  unfolding partAnswer formerAnswer
+  unfolding sendAnswer formerAnswer
   answer-as-before room =
       ap (λ (z : Answer). andThen (checkRule rule) (andThen (checkTable table) (unless (leb 1 mode && leb mode 3) 13 (unlessAny (otherDevice table) 14 (rowCount table) z))))
       (sym (no-refusal (eqb mode 3) (fits room)))
 
   pub output-as-before : (out : List ℕ) → partOut rule table mode out ≡ formerOut out
-  unfolding partOut formerOut
+  unfolding sendOut formerOut
   output-as-before out = ap (λ (a : Answer). output a (wordsOf sent) out) (answer-as-before (length out))

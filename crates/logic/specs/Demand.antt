@@ -1,5 +1,5 @@
--- 01, What demand 3 compares. A rule is accepted if its checks (1 to 7) find no fault, a table if its own (8 to 12 with 26) find none:
--- `acceptedRule` and `acceptedTable`. Assumes nothing.
+-- 01, What demand 3 compares; 02, wish 1, for a set of rules. A set is accepted if its checks (20, 1 to 7) find no fault, a table if its
+-- own (8 to 12 with 26) find none: `acceptedSet` and `acceptedTable`. Assumes nothing.
 use Prim.Native.Nat.{ℕ, _*_, _≤_, _<_}
 use mathlib.Core.Path.{_≡_}
 use mathlib.Core.Logic.{_⊎_}
@@ -9,16 +9,16 @@ use lib.ListN.{length, getD, take}
 use Rattle.base.specs.Lists.{_∈_, put, concatMap}
 use Rattle.tables.specs.Answers.{isDone, value}
 use Rattle.tables.specs.Words.{whole, rowWords, rowAt, rowCount, rows}
-use Rattle.tables.specs.Rules.{acceptedRule}
 use Rattle.tables.specs.Tables.{isParent, acceptedTable}
 use Rattle.tables.specs.Joining.{joinTables, joinAnswer, joinPool}
 use Rattle.tables.specs.declared.Row.{Row}
 use Rattle.tables.specs.declared.Answer.{Answer}
 use Rattle.tables.specs.declared.Answer.the-variants.{Refused}
-use Rattle.logic.specs.Formulas.{Formula, formula}
-use Rattle.logic.specs.Verdict.{verdictAnswer}
+use Rattle.sets.specs.Sets.{rulesOf, acceptedSet}
+use Rattle.logic.specs.Formulas.{Formula, formulasOf}
+use Rattle.logic.specs.Verdict.{verdictAnswer, setVerdictsAnswer, setVerdictsOut}
 use Rattle.logic.specs.Marks.{sameRow, marksOut}
-use Rattle.logic.specs.Parts.{spare, partOf, wordsOf, partAnswer, partOut}
+use Rattle.logic.specs.Parts.{spareForEach, partOf, wordsOf, setPartAnswer, setPartOut}
 
 -- a device is all its rows, even if it has none; with it stand the cut that it sends, and the number of words in the buffer in which
 -- that cut is joined
@@ -42,16 +42,16 @@ pub record Cut (isSpare : Row → Bool) (D C : List Row) : Type 0 where
   -- no row sent hangs under one left out
   pub sent : (r s : Row) → r ∈ C → s ∈ D → ¬ (s ∈ C) → ¬ (Under D r s)
 
--- the words sent are those of a cut of the table; spare is read on all rows of the device
-pub record IsCut (F : Formula) (table cut : List ℕ) : Type 0 where
+-- the words sent are those of a cut of the table for the set; spare is read on all rows of the device
+pub record IsCut (Fs : List Formula) (table cut : List ℕ) : Type 0 where
   pub whole-rows : whole rowWords cut ≡ true
-  pub is-cut : Cut (spare F (rows table)) (rows table) (rows cut)
+  pub is-cut : Cut (spareForEach Fs (rows table)) (rows table) (rows cut)
 
 -- the device's table is whole rows, all of that device, and it sends a cut of them
-pub record Sends (F : Formula) (d : Device) : Type 0 where
+pub record Sends (Fs : List Formula) (d : Device) : Type 0 where
   pub whole-rows : whole rowWords (d .table) ≡ true
   pub own-rows : (r : Row) → r ∈ rows (d .table) → r .device ≡ d .number
-  pub sends : IsCut F (d .table) (d .cut)
+  pub sends : IsCut Fs (d .table) (d .cut)
 
 -- the dump is all rows of the devices, in the list's order
 abbrev pub dump : List Device → List ℕ
@@ -88,11 +88,11 @@ joinedParts ds = parts [] ds
 abbrev pub joinedDump : List Device → List ℕ
 joinedDump ds = dump (taken [] ds)
 
--- ---- what is given: an accepted rule, devices of which none stands twice, with any cuts and buffers, and an accepted dump
-pub record Given (rule : List ℕ) (ds : List Device) : Type 0 where
-  pub rule-accepted : acceptedRule rule ≡ true
+-- ---- what is given: an accepted set, devices of which none stands twice, with any cuts for it and buffers, and an accepted dump
+pub record Given (rules counts : List ℕ) (ds : List Device) : Type 0 where
+  pub set-accepted : acceptedSet rules counts ≡ true
   pub none-twice : List·Nodup (map (λ (d : Device). d .number) ds)
-  pub devices : (d : Device) → d ∈ ds → Sends (formula rule) d
+  pub devices : (d : Device) → d ∈ ds → Sends (formulasOf rules counts) d
   pub dump-accepted : acceptedTable (dump ds) ≡ true
 
 -- ---- what is claimed
@@ -106,6 +106,13 @@ InPlace t rest d =
     length (t ++ rest) ≡ d .room
     → (joinAnswer (t ++ rest) (length t) (d .cut) ≡ join t d) × (take (length (after t d)) (joinPool (t ++ rest) (length t) (d .cut)) ≡ after t d)
 
+-- the set's verdict call answers the same on two tables, and writes the same bytes, in whatever buffer
+abbrev pub SameVerdicts : List ℕ → List ℕ → List ℕ → List ℕ → Type 0
+SameVerdicts rules counts s t =
+    (out : List ℕ)
+    → (setVerdictsAnswer rules counts s (length out) ≡ setVerdictsAnswer rules counts t (length out))
+    × (setVerdictsOut rules counts s out ≡ setVerdictsOut rules counts t out)
+
 -- the call for marks writes 1 for row i
 abbrev pub Marked : List ℕ → List ℕ → List ℕ → ℕ → Type 0
 Marked rule table out i = getD (marksOut rule table out) i 0 ≡ 1
@@ -118,27 +125,30 @@ MarksKept rule s t =
     → (j : ℕ) × (j < rowCount t) × (sameRow (rowAt s i) (rowAt t j) ≡ true) × Marked rule t out′ j
 
 -- the rows that a part call says that it has written
-abbrev pub partRows : List ℕ → List ℕ → ℕ → List ℕ → List ℕ
-partRows rule table mode out = take (rowWords * value (partAnswer rule table mode (length out))) (partOut rule table mode out)
+abbrev pub partRows : List ℕ → List ℕ → List ℕ → ℕ → List ℕ → List ℕ
+partRows rules counts table mode out =
+    take (rowWords * value (setPartAnswer rules counts table mode (length out))) (setPartOut rules counts table mode out)
 
 -- a part is a cut; the call for it is refused with 17 alone, and else writes that part
-pub record PartIsCut (rule table : List ℕ) (mode : ℕ) (out : List ℕ) : Type 0 where
-  pub is-cut : IsCut (formula rule) table (wordsOf (partOf (formula rule) mode (rows table)))
-  pub only-short : OnlyShort (partAnswer rule table mode (length out))
-  pub writes : isDone (partAnswer rule table mode (length out)) ≡ true → partRows rule table mode out ≡ wordsOf (partOf (formula rule) mode (rows table))
+pub record PartIsCut (rules counts table : List ℕ) (mode : ℕ) (out : List ℕ) : Type 0 where
+  pub is-cut : IsCut (formulasOf rules counts) table (wordsOf (partOf (formulasOf rules counts) mode (rows table)))
+  pub only-short : OnlyShort (setPartAnswer rules counts table mode (length out))
+  pub writes : isDone (setPartAnswer rules counts table mode (length out)) ≡ true
+      → partRows rules counts table mode out ≡ wordsOf (partOf (formulasOf rules counts) mode (rows table))
 
--- demand 3 is a single claim about the list with all its cuts
-pub record Claim (rule : List ℕ) (ds : List Device) : Type 0 where
+-- demand 3 is a single claim about the list with all its cuts; for one rule it is that of the set of one (`OfOne` in specs/Sets)
+pub record Claim (rules counts : List ℕ) (ds : List Device) : Type 0 where
   -- no joining of the parts is refused except with 17
   pub only-short : (a : Answer) → a ∈ answers [] ds → OnlyShort a
   pub in-place : (d : Device) → d ∈ ds → (t rest : List ℕ) → InPlace t rest d
   pub parts-accepted : acceptedTable (joinedParts ds) ≡ true
   pub dump-accepted : acceptedTable (joinedDump ds) ≡ true
-  -- the verdict call answers the same on the joined parts and on the dump of the devices joined
-  pub same-verdict : verdictAnswer rule (joinedParts ds) ≡ verdictAnswer rule (joinedDump ds)
-  -- every row marked on the joined parts is marked on that dump
-  pub marks-kept : MarksKept rule (joinedParts ds) (joinedDump ds)
+  -- each rule of the set has the same verdict on the joined parts as on the dump of the devices joined, and so have the set's bytes
+  pub same-verdict : (rule : List ℕ) → rule ∈ rulesOf rules counts → verdictAnswer rule (joinedParts ds) ≡ verdictAnswer rule (joinedDump ds)
+  pub same-verdicts : SameVerdicts rules counts (joinedParts ds) (joinedDump ds)
+  -- for each rule, every row marked on the joined parts is marked on that dump
+  pub marks-kept : (rule : List ℕ) → rule ∈ rulesOf rules counts → MarksKept rule (joinedParts ds) (joinedDump ds)
   -- all rows, the branch part and the full part are such cuts
-  pub parts-are-cuts : (d : Device) → d ∈ ds → (mode : ℕ) → 1 ≤ mode → mode ≤ 3 → (out : List ℕ) → PartIsCut rule (d .table) mode out
+  pub parts-are-cuts : (d : Device) → d ∈ ds → (mode : ℕ) → 1 ≤ mode → mode ≤ 3 → (out : List ℕ) → PartIsCut rules counts (d .table) mode out
   -- the only cut of a device without rows is empty
   pub empty-cut : (d : Device) → d ∈ ds → d .table ≡ [] → d .cut ≡ []

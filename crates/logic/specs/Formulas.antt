@@ -1,9 +1,10 @@
 -- 01, Tables: the formula that a rule's entries stand for. Assumes nothing.
 use Prim.Native.Nat.{ℕ, zero, suc, _-_}
-use mathlib.Core.List.{List, [], _∷_}
+use mathlib.Core.List.{List, [], _∷_, map}
 use lib.ListN.{getD}
 use Rattle.tables.specs.Words.{entryAt, entryCount}
 use Rattle.tables.specs.declared.Entry.{Entry}
+use Rattle.sets.specs.Sets.{rulesOf}
 
 -- kinds 5 and 6: for every, for some
 pub data Quantifier : Type 0 where
@@ -78,3 +79,7 @@ formulaAt r k = getD (formulas r 0 (entryCount r)) k noFormula
 -- entry 0 is the whole rule
 abbrev pub formula : List ℕ → Formula
 formula r = formulaAt r 0
+
+-- the formulas of a set's rules
+abbrev pub formulasOf : List ℕ → List ℕ → List Formula
+formulasOf rules counts = map formula (rulesOf rules counts)

@@ -7,3 +7,4 @@ pub mod Elsewhere
 pub mod Parts
 pub mod Demand
 pub mod Depth
+pub mod Sets

@@ -1,4 +1,5 @@
--- 01, Spare rows, and Parts and joining: which rows a device may keep to itself, and the three kinds of part. Assumes nothing.
+-- 01, Spare rows, and Parts and joining: which rows a device may keep to itself, and the three kinds of part; 02, wish 1, for a set of
+-- rules. Assumes nothing.
 use Prim.Native.Nat.{ℕ, suc}
 use mathlib.Core.Bool.{Bool, true, false, not, cond, _&&_, _||_}
 use mathlib.Core.List.{List, [], _∷_, reverse, map}
@@ -12,7 +13,8 @@ use Rattle.tables.specs.Tables.{root, isParent, checkTable}
 use Rattle.tables.specs.declared.Row.{Row}
 use Rattle.tables.specs.declared.Answer.{Answer}
 use Rattle.tables.specs.declared.Answer.the-variants.{Done}
-use Rattle.logic.specs.Formulas.{Formula, negation, joined, quantified, compared, Over, roots, under, formula}
+use Rattle.sets.specs.Sets.{checkSet}
+use Rattle.logic.specs.Formulas.{Formula, negation, joined, quantified, compared, Over, roots, under, formula, formulasOf}
 use Rattle.logic.specs.Verdict.{Bindings, bind, bound, noneBound, named, settled}
 use Rattle.logic.specs.Reading.{reading, reads}
 
@@ -56,6 +58,15 @@ spareIn (compared c v w) D d K r = true
 unfoldable pub spare : Formula → List Row → Row → Bool
 spare F D r = spareIn F D 0 noChains r
 
+-- ---- for a set of rules (02, wish 1); one rule is a set of one
+-- a row is reached if any rule reaches it
+unfoldable pub reachedByAny : List Formula → List Row → Row → Bool
+reachedByAny Fs D r = any (λ F. reached F D r) Fs
+
+-- and spare if it is spare for each rule in it
+unfoldable pub spareForEach : List Formula → List Row → Row → Bool
+spareForEach Fs D r = all (λ F. spare F D r) Fs
+
 -- ---- parts
 -- the rows above r, nearest first: one walk back through the rows before it, which hold its parent
 unfoldable pub lineage : List Row → Row → List Row
@@ -70,18 +81,18 @@ unfoldable pub partBy : (Row → Bool) → List Row → List Row
 partBy t D = select (λ r. t r && all t (ancestors D r)) D
 
 -- mode 2, branch: rows that are reached and whose ancestors all are
-unfoldable pub branchPart : Formula → List Row → List Row
-branchPart F D = partBy (reached F D) D
+unfoldable pub branchPart : List Formula → List Row → List Row
+branchPart Fs D = partBy (reachedByAny Fs D) D
 
 -- mode 3, full: rows that aren't spare and have no spare ancestor
-unfoldable pub fullPart : Formula → List Row → List Row
-fullPart F D = partBy (λ r. not (spare F D r)) D
+unfoldable pub fullPart : List Formula → List Row → List Row
+fullPart Fs D = partBy (λ r. not (spareForEach Fs D r)) D
 
 -- mode 1 is all rows
-unfoldable pub partOf : Formula → ℕ → List Row → List Row
-partOf F mode D = cond (eqb mode 1) D (cond (eqb mode 2) (branchPart F D) (fullPart F D))
+unfoldable pub partOf : List Formula → ℕ → List Row → List Row
+partOf Fs mode D = cond (eqb mode 1) D (cond (eqb mode 2) (branchPart Fs D) (fullPart Fs D))
 
--- ---- the call: the number of rows sent, or the refusal; the output is their words and what stood past them, or as it was
+-- ---- the calls: the number of rows sent, or the refusal; the output is their words and what stood past them, or as it was
 -- the words of rows
 abbrev pub wordsOf : List Row → List ℕ
 wordsOf D = concatMap columnsOf D
@@ -90,14 +101,29 @@ wordsOf D = concatMap columnsOf D
 abbrev pub otherDevice : List ℕ → ℕ → Bool
 otherDevice t i = not (eqb (rowAt t i .device) (rowAt t 0 .device))
 
-unfoldable pub partAnswer : List ℕ → List ℕ → ℕ → ℕ → Answer
-partAnswer rule table mode room =
-    let sent = partOf (formula rule) mode (rows table) in
-    andThen (checkRule rule) (andThen (checkTable table)
+-- the answer of the rule's or the set's own checks stands first
+unfoldable pub sendAnswer : Answer → List Formula → List ℕ → ℕ → ℕ → Answer
+sendAnswer checked Fs table mode room =
+    let sent = partOf Fs mode (rows table) in
+    andThen checked (andThen (checkTable table)
     (unless (leb 1 mode && leb mode 3) 13
     (unlessAny (otherDevice table) 14 (rowCount table)
     (unless (leb (length (wordsOf sent)) room) 17
     (Done (length sent))))))
 
-unfoldable pub partOut : List ℕ → List ℕ → ℕ → List ℕ → List ℕ
-partOut rule table mode out = output (partAnswer rule table mode (length out)) (wordsOf (partOf (formula rule) mode (rows table))) out
+unfoldable pub sendOut : Answer → List Formula → List ℕ → ℕ → List ℕ → List ℕ
+sendOut checked Fs table mode out = output (sendAnswer checked Fs table mode (length out)) (wordsOf (partOf Fs mode (rows table))) out
+
+-- for one rule
+abbrev pub partAnswer : List ℕ → List ℕ → ℕ → ℕ → Answer
+partAnswer rule = sendAnswer (checkRule rule) (formula rule ∷ [])
+
+abbrev pub partOut : List ℕ → List ℕ → ℕ → List ℕ → List ℕ
+partOut rule = sendOut (checkRule rule) (formula rule ∷ [])
+
+-- for a set
+abbrev pub setPartAnswer : List ℕ → List ℕ → List ℕ → ℕ → ℕ → Answer
+setPartAnswer rules counts = sendAnswer (checkSet rules counts) (formulasOf rules counts)
+
+abbrev pub setPartOut : List ℕ → List ℕ → List ℕ → ℕ → List ℕ → List ℕ
+setPartOut rules counts = sendOut (checkSet rules counts) (formulasOf rules counts)

@@ -1,17 +1,19 @@
--- 01, Verdict. Assumes nothing.
+-- 01, Verdict; 02, wish 1, the verdicts of a set. Assumes nothing.
 use Prim.Native.Nat.{ℕ, suc}
 use mathlib.Core.Bool.{Bool, true, false, not, cond, _&&_, _||_}
-use mathlib.Core.List.{List, [], _∷_}
+use mathlib.Core.List.{List, [], _∷_, map}
+use lib.ListN.{length}
 use lib.Dec.{eqb, ltb, leb}
 use Rattle.base.specs.Lists.{select}
-use Rattle.tables.specs.Answers.{andThen}
+use Rattle.tables.specs.Answers.{andThen, fitting, output}
 use Rattle.tables.specs.Words.{rows}
 use Rattle.tables.specs.Rules.{one, checkRule}
 use Rattle.tables.specs.Tables.{root, isParent, checkTable}
 use Rattle.tables.specs.declared.Row.{Row}
 use Rattle.tables.specs.declared.Answer.{Answer}
 use Rattle.tables.specs.declared.Answer.the-variants.{Done}
-use Rattle.logic.specs.Formulas.{Formula, negation, joined, quantified, compared, Quantifier, every, some, Connective, and, or, implies, Comparison, equal, less, atMost, Over, roots, under, Operand, variable, constant, formula}
+use Rattle.sets.specs.Sets.{checkSet}
+use Rattle.logic.specs.Formulas.{Formula, negation, joined, quantified, compared, Quantifier, every, some, Connective, and, or, implies, Comparison, equal, less, atMost, Over, roots, under, Operand, variable, constant, formula, formulasOf}
 
 -- ---- bindings give each variable a row or nothing
 pub data Place : Type 0 where
@@ -90,3 +92,15 @@ verdict F T = holds F T 0 noneBound
 -- ---- the call: 1 true, 0 false, or the refusal; rule before table
 unfoldable pub verdictAnswer : List ℕ → List ℕ → Answer
 verdictAnswer rule pool = andThen (checkRule rule) (andThen (checkTable pool) (Done (one (verdict (formula rule) (rows pool)))))
+
+-- ---- the call for a set: one byte per rule, and what stood past them, or as it was; the number of rules, or the refusal
+abbrev pub verdictBytes : List Formula → List Row → List ℕ
+verdictBytes Fs T = map (λ F. one (verdict F T)) Fs
+
+unfoldable pub setVerdictsAnswer : List ℕ → List ℕ → List ℕ → ℕ → Answer
+setVerdictsAnswer rules counts pool room =
+    andThen (checkSet rules counts) (andThen (checkTable pool) (fitting (verdictBytes (formulasOf rules counts) (rows pool)) room))
+
+unfoldable pub setVerdictsOut : List ℕ → List ℕ → List ℕ → List ℕ → List ℕ
+setVerdictsOut rules counts pool out =
+    output (setVerdictsAnswer rules counts pool (length out)) (verdictBytes (formulasOf rules counts) (rows pool)) out

@@ -6,6 +6,7 @@ pub mod Quantifiers
 pub mod Parentage
 pub mod Climbs
 pub mod Omits
+pub mod Each
 pub mod Seeking
 pub mod Endings
 pub mod Staying

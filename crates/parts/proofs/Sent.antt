@@ -16,8 +16,8 @@ use Rattle.tables.specs.Words.{rowWords, rowAt, rowCount, rowsFrom, rows}
 use Rattle.tables.specs.Rules.{one}
 use Rattle.tables.specs.declared.Row.{Row}
 use Rattle.tables.proofs.Writes.{sets-append}
-use Rattle.logic.specs.Formulas.{Formula, formula}
-use Rattle.logic.specs.Parts.{reached, spare, ancestors, partBy, branchPart, fullPart, partOf, wordsOf}
+use Rattle.logic.specs.Formulas.{Formula}
+use Rattle.logic.specs.Parts.{reachedByAny, spareForEach, ancestors, partBy, branchPart, fullPart, partOf, wordsOf}
 use Rattle.logic.proofs.Walks.{select-halves}
 use Rattle.parts.specs.Sending.{rowSent, rowsSent}
 use Rattle.parts.specs.Keeping.{stays, Keeps}
@@ -131,24 +131,24 @@ module _ (t kept out₀ : List ℕ) (n : ℕ) where
   send-end out at i s h = let z : n - i ≡ 0 = omega arith in sym (s .rest ∙ ap (λ (k : ℕ). sets out at (wordsOf (rowsSent t kept i k))) z)
 
 -- ---- the part
-pub part-is : (F : Formula) (m : ℕ) (D : List Row) → partOf F m D ≡ select (stays m F D) D
+pub part-is : (Fs : List Formula) (m : ℕ) (D : List Row) → partOf Fs m D ≡ select (stays m Fs D) D
 unfolding partOf branchPart fullPart partBy stays
-part-is F m D = go (eqb m 1) (eqb m 2)
+part-is Fs m D = go (eqb m 1) (eqb m 2)
   where
     out : Bool → Row → Bool
-    out c r = cond c (not (reached F D r)) (spare F D r)
+    out c r = cond c (not (reachedByAny Fs D r)) (spareForEach Fs D r)
 
     by : (Row → Bool) → List Row
     by p = select (λ r. p r && all p (ancestors D r)) D
 
-    go : (b c : Bool) → cond b D (cond c (by (reached F D)) (by (λ r. not (spare F D r)))) ≡ select (λ r. cond b true (not (out c r) && all (λ s. not (out c s)) (ancestors D r))) D
+    go : (b c : Bool) → cond b D (cond c (by (reachedByAny Fs D)) (by (λ r. not (spareForEach Fs D r)))) ≡ select (λ r. cond b true (not (out c r) && all (λ s. not (out c s)) (ancestors D r))) D
     go true c = sym (select-all (λ r. true) D (λ r i. refl))
-    go false true = ap by (fun-ext (λ r. sym (Bool·not-not (reached F D r))))
+    go false true = ap by (fun-ext (λ r. sym (Bool·not-not (reachedByAny Fs D r))))
     go false false = refl
 
-module _ (rule t kept : List ℕ) (m : ℕ) (keeps : Keeps rule t m kept (rowCount t)) where
+module _ (Fs : List Formula) (t kept : List ℕ) (m : ℕ) (keeps : Keeps Fs t m kept (rowCount t)) where
   abbrev stay : Row → Bool
-  stay = stays m (formula rule) (rows t)
+  stay = stays m Fs (rows t)
 
   one-row : (b : Bool) (x : ℕ) (r : Row) (rest : List Row) → x ≡ one b → (when (not (eqb x 0)) (r ∷ []) ++ rest) ≡ put b r rest
   one-row true x r rest e = rw e
@@ -161,11 +161,11 @@ module _ (rule t kept : List ℕ) (m : ℕ) (keeps : Keeps rule t m kept (rowCou
       ap (λ (D : List Row). rowSent t i (getD kept i 0) ++ D) (same-from (suc i) k (omega arith))
       ∙ one-row (stay (rowAt t i)) (getD kept i 0) (rowAt t i) (select stay (rowsFrom t (suc i) k)) (keeps .holds i (omega arith))
 
-  pub sent-is : rowsSent t kept 0 (rowCount t) ≡ partOf (formula rule) m (rows t)
-  sent-is = same-from 0 (rowCount t) (omega arith) ∙ sym (part-is (formula rule) m (rows t))
+  pub sent-is : rowsSent t kept 0 (rowCount t) ≡ partOf Fs m (rows t)
+  sent-is = same-from 0 (rowCount t) (omega arith) ∙ sym (part-is Fs m (rows t))
 
-  pub count-is : sumBelow (λ j. getD kept j 0) (rowCount t) ≡ length (partOf (formula rule) m (rows t))
+  pub count-is : sumBelow (λ j. getD kept j 0) (rowCount t) ≡ length (partOf Fs m (rows t))
   count-is =
       sum-same (λ j. getD kept j 0) (λ j. one (stay (rowAt t j))) (rowCount t) (keeps .holds)
       ∙ sum-length stay t (rowCount t)
-      ∙ ap length (sym (part-is (formula rule) m (rows t)))
+      ∙ ap length (sym (part-is Fs m (rows t)))

@@ -1,6 +1,6 @@
 -- A row stays where it passes its mode's test and it is a root or its parent stays. Assumes nothing.
 use Prim.Native.Nat.{ℕ, _<_, _≤_}
-use mathlib.Core.Path.{_≡_, refl, sym, ap, subst, _∙_}
+use mathlib.Core.Path.{_≡_, refl, sym, ap, _∙_}
 use mathlib.Core.Bool.{Bool, true, false, not, cond, _&&_, _||_, and-false, and-true, true≢false, false≢true}
 use mathlib.Core.List.{List}
 use native.Mathlib.Omega.{arith}
@@ -11,20 +11,18 @@ use Rattle.base.specs.Lists.{all}
 use Rattle.base.proofs.Bools.{either}
 use Rattle.base.proofs.Search.{none-before}
 use Rattle.tables.specs.Words.{rowAt, rowCount, rows}
-use Rattle.tables.specs.Rules.{one, aroundFrom}
+use Rattle.tables.specs.Rules.{one}
 use Rattle.tables.specs.Tables.{root, isParent, rowLimit}
 use Rattle.tables.specs.declared.Row.{Row}
 use Rattle.tables.proofs.Accepted.{few-rows, has-parent}
-use Rattle.tables.proofs.AcceptedRule.{some-entry}
 use Rattle.tables.proofs.RowLists.{row-in}
 use Rattle.tables.proofs.Proper.{rows-proper}
-use Rattle.logic.specs.Formulas.{Formula, formula}
-use Rattle.logic.specs.Parts.{reached, spare, ancestors}
+use Rattle.logic.specs.Formulas.{Formula, formulasOf}
+use Rattle.logic.specs.Parts.{ancestors}
 use Rattle.logic.proofs.Ancestors.{stays-child, stays-root}
-use Rattle.parts.specs.Reaching.{parentOf, noBinders, chainsBelow}
-use Rattle.parts.specs.Omitting.{omittedAt, ReadyOmit}
+use Rattle.parts.specs.Reaching.{parentOf}
+use Rattle.parts.specs.Omitting.{omitted, ReadyEach}
 use Rattle.parts.specs.Keeping.{OneDevice, leftOut, passes, stays, ReadyRow}
-use Rattle.parts.specs.declared.chains.Binders.{Binders}
 use Rattle.parts.proofs.Parentage.{parent-le, parent-before, parent-is}
 
 -- ---- the code's ways
@@ -36,15 +34,15 @@ module _ (parents kept : List ℕ) (i : ℕ) where
   other-parent h = sym (ap (λ (b : Bool). cond b false (eqb (getD kept (getD parents i 0) 0) 0)) (ne-eqb (getD parents i 0) i h))
 
 -- ---- one row
-module _ {rule t parents kept : List ℕ} {m i : ℕ} (ready : ReadyRow rule t parents kept m i) where
-  abbrev F : Formula
-  F = formula rule
+module _ {rules counts t parents kept : List ℕ} {m i : ℕ} (ready : ReadyRow rules counts t parents kept m i) where
+  abbrev Fs : List Formula
+  Fs = formulasOf rules counts
 
   abbrev D : List Row
   D = rows t
 
   abbrev stay : ℕ → Bool
-  stay j = stays m F D (rowAt t j)
+  stay j = stays m Fs D (rowAt t j)
 
   ok : OneDevice t
   ok = ready .ready .device
@@ -70,30 +68,30 @@ module _ {rule t parents kept : List ℕ} {m i : ℕ} (ready : ReadyRow rule t p
 
   -- what is left to its own test, once its parent stays
   own : Bool
-  own = eqb m 1 || passes m F D (rowAt t i)
+  own = eqb m 1 || passes m Fs D (rowAt t i)
 
-  go-root : (b : Bool) (r : Bool) → cond b true (passes m F D (rowAt t i) && r) ≡ ((b || passes m F D (rowAt t i)) && cond b true r)
+  go-root : (b : Bool) (r : Bool) → cond b true (passes m Fs D (rowAt t i) && r) ≡ ((b || passes m Fs D (rowAt t i)) && cond b true r)
   go-root true r = refl
   go-root false r = refl
 
   stay-root : parentOf t i ≡ i → stay i ≡ own
   unfolding stays own
   stay-root e =
-      ap (λ (b : Bool). cond (eqb m 1) true b) (stays-root D (rows-proper t (ok .accepted) .order .parented) (passes m F D) (rowAt t i) (is-root e))
+      ap (λ (b : Bool). cond (eqb m 1) true b) (stays-root D (rows-proper t (ok .accepted) .order .parented) (passes m Fs D) (rowAt t i) (is-root e))
       ∙ go-root (eqb m 1) true ∙ go (eqb m 1)
     where
-      go : (b : Bool) → ((b || passes m F D (rowAt t i)) && cond b true true) ≡ (b || passes m F D (rowAt t i))
+      go : (b : Bool) → ((b || passes m Fs D (rowAt t i)) && cond b true true) ≡ (b || passes m Fs D (rowAt t i))
       go true = refl
-      go false = and-true (passes m F D (rowAt t i))
+      go false = and-true (passes m Fs D (rowAt t i))
 
   stay-child : (parentOf t i ≡ i → ⊥) → stay i ≡ (own && stay (parentOf t i))
   unfolding stays own
   stay-child n =
       ap (λ (b : Bool). cond (eqb m 1) true b)
-      (stays-child D (rows-proper t (ok .accepted) .order .parented) (passes m F D) (rowAt t i) (rowAt t (parentOf t i))
+      (stays-child D (rows-proper t (ok .accepted) .order .parented) (passes m Fs D) (rowAt t i) (rowAt t (parentOf t i))
       (row-in t (parentOf t i) (omega (arith, parent-before t (ok .accepted) i (ready .row-inside) n, ready .row-inside)))
       (parent-is t (ok .accepted) i (ready .row-inside) n))
-      ∙ go-root (eqb m 1) (passes m F D (rowAt t (parentOf t i)) && all (passes m F D) (ancestors D (rowAt t (parentOf t i))))
+      ∙ go-root (eqb m 1) (passes m Fs D (rowAt t (parentOf t i)) && all (passes m Fs D) (ancestors D (rowAt t (parentOf t i))))
 
   byte-zero : (b : Bool) → eqb (one b) 0 ≡ not b
   byte-zero true = refl
@@ -130,35 +128,23 @@ module _ {rule t parents kept : List ℕ} {m i : ℕ} (ready : ReadyRow rule t p
 
     pub stays-all : l ≡ false → m ≡ 1 → _≡_ {A = ℕ} 1 (one (stay i))
     unfolding own
-    stays-all h e = sym (ap one (parent-kept h ∙ ap (λ (b : Bool). b || passes m F D (rowAt t i)) (eq-eqb m 1 e)))
+    stays-all h e = sym (ap one (parent-kept h ∙ ap (λ (b : Bool). b || passes m Fs D (rowAt t i)) (eq-eqb m 1 e)))
 
-    module _ {by : Binders} (by-is : by ≡ noBinders) where
-      omitted-is : omittedAt m rule t by 0 i ≡ cond (eqb m 2) (not (reached F D (rowAt t i))) (spare F D (rowAt t i))
-      unfolding reached spare chainsBelow
-      omitted-is = ap (λ (z : Binders). omittedAt m rule t z 0 i) by-is
+    module _ (h : l ≡ false) (e : m ≡ 1 → ⊥) {x : Bool} (x-is : x ≡ omitted m Fs D (rowAt t i)) where
+      passes-is : stay i ≡ not x
+      unfolding own
+      passes-is = parent-kept h ∙ ap (λ (b : Bool). b || passes m Fs D (rowAt t i)) (ne-eqb m 1 e) ∙ ap not (sym x-is)
 
-      module _ (h : l ≡ false) (e : m ≡ 1 → ⊥) {x : Bool} (x-is : x ≡ omittedAt m rule t by 0 i) where
-        passes-is : stay i ≡ not x
-        unfolding own
-        passes-is =
-            parent-kept h ∙ ap (λ (b : Bool). b || passes m F D (rowAt t i)) (ne-eqb m 1 e)
-            ∙ ap not (sym (x-is ∙ omitted-is))
+      pub stays-omitted : x ≡ true → _≡_ {A = ℕ} 0 (one (stay i))
+      stays-omitted f = sym (ap one (passes-is ∙ ap not f))
 
-        pub stays-omitted : x ≡ true → _≡_ {A = ℕ} 0 (one (stay i))
-        stays-omitted f = sym (ap one (passes-is ∙ ap not f))
+      pub stays-kept : x ≡ false → _≡_ {A = ℕ} 1 (one (stay i))
+      stays-kept f = sym (ap one (passes-is ∙ ap not f))
 
-        pub stays-kept : x ≡ false → _≡_ {A = ℕ} 1 (one (stay i))
-        stays-kept f = sym (ap one (passes-is ∙ ap not f))
-
-  pub start-ready : {by : Binders} → by ≡ noBinders → ReadyOmit rule t parents by 0 i
-  unfolding aroundFrom
-  start-ready by-is = subst (λ (z : Binders). ReadyOmit rule t parents z 0 i) (sym by-is) (record {
-    rule-accepted = ready .ready .rule-accepted;
+  pub each-ready : ReadyEach rules counts t parents i
+  each-ready = record {
+    set-accepted = ready .ready .set-accepted;
     table-accepted = ok .accepted;
     has-parents = ready .has-parents;
-    sized = refl;
-    binders = record { inside = λ v h. absurd (omega arith); over = λ v h. absurd (omega arith) };
-    inside = some-entry rule (ready .ready .rule-accepted);
-    depth-is = refl;
     row-inside = ready .row-inside;
-  })
+  }

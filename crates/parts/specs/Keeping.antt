@@ -8,20 +8,22 @@ use lib.ListN.{getD}
 use lib.Dec.{eqb}
 use Rattle.base.specs.Lists.{all}
 use Rattle.tables.specs.Words.{rowAt, rowCount, rows}
-use Rattle.tables.specs.Rules.{one, acceptedRule}
+use Rattle.tables.specs.Rules.{one}
 use Rattle.tables.specs.Tables.{acceptedTable}
 use Rattle.tables.specs.declared.Row.{Row}
-use Rattle.logic.specs.Formulas.{Formula, formula}
-use Rattle.logic.specs.Parts.{reached, spare, ancestors}
+use Rattle.sets.specs.Sets.{acceptedSet}
+use Rattle.logic.specs.Formulas.{Formula, formulasOf}
+use Rattle.logic.specs.Parts.{ancestors}
 use Rattle.parts.specs.Reaching.{Holds, Parents}
+use Rattle.parts.specs.Omitting.{omitted}
 
 -- an accepted table of one device
 pub record OneDevice (t : List ℕ) : Type 0 where
   pub accepted : acceptedTable t ≡ true
   pub same : (i : ℕ) → i < rowCount t → rowAt t i .device ≡ rowAt t 0 .device
 
-pub record ReadyPart (rule t : List ℕ) : Type 0 where
-  pub rule-accepted : acceptedRule rule ≡ true
+pub record ReadyPart (rules counts t : List ℕ) : Type 0 where
+  pub set-accepted : acceptedSet rules counts ≡ true
   pub device : OneDevice t
 
 -- ---- one row
@@ -30,19 +32,19 @@ abbrev pub leftOut : List ℕ → List ℕ → ℕ → Bool
 leftOut parents kept i = cond (eqb (getD parents i 0) i) false (eqb (getD kept (getD parents i 0) 0) 0)
 
 -- the mode's test: reached (mode 2), not spare (mode 3)
-abbrev pub passes : ℕ → Formula → List Row → Row → Bool
-passes m F D r = not (cond (eqb m 2) (not (reached F D r)) (spare F D r))
+abbrev pub passes : ℕ → List Formula → List Row → Row → Bool
+passes m Fs D r = not (omitted m Fs D r)
 
 -- mode 1 keeps every row, the others those that pass and whose ancestors all do
-unfoldable pub stays : ℕ → Formula → List Row → Row → Bool
-stays m F D r = cond (eqb m 1) true (passes m F D r && all (passes m F D) (ancestors D r))
+unfoldable pub stays : ℕ → List Formula → List Row → Row → Bool
+stays m Fs D r = cond (eqb m 1) true (passes m Fs D r && all (passes m Fs D) (ancestors D r))
 
 -- the first i bytes are 1 where the row stays, else 0
-abbrev pub Keeps : List ℕ → List ℕ → ℕ → List ℕ → ℕ → Type 0
-Keeps rule t m kept i = Holds (λ j. one (stays m (formula rule) (rows t) (rowAt t j))) kept i
+abbrev pub Keeps : List Formula → List ℕ → ℕ → List ℕ → ℕ → Type 0
+Keeps Fs t m kept i = Holds (λ j. one (stays m Fs (rows t) (rowAt t j))) kept i
 
-pub record ReadyRow (rule t parents kept : List ℕ) (m i : ℕ) : Type 0 where
-  pub ready : ReadyPart rule t
+pub record ReadyRow (rules counts t parents kept : List ℕ) (m i : ℕ) : Type 0 where
+  pub ready : ReadyPart rules counts t
   pub has-parents : Parents t parents
-  pub kept-before : Keeps rule t m kept i
+  pub kept-before : Keeps (formulasOf rules counts) t m kept i
   pub row-inside : i < rowCount t

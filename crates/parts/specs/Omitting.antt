@@ -13,7 +13,8 @@ use Rattle.tables.specs.declared.Row.{Row}
 use Rattle.logic.specs.Formulas.{Formula, Quantifier, formulaAt}
 use Rattle.logic.specs.Verdict.{Bindings, settled}
 use Rattle.logic.specs.Reading.{reading, reads}
-use Rattle.logic.specs.Parts.{Chains, reachedIn, spareIn}
+use Rattle.sets.specs.Sets.{acceptedSet}
+use Rattle.logic.specs.Parts.{Chains, reachedIn, spareIn, reachedByAny, spareForEach}
 use Rattle.engine.specs.Ready.{Ready}
 use Rattle.parts.specs.Reaching.{Parents, chainsBelow, Around}
 use Rattle.parts.specs.declared.chains.Binders.{Binders}
@@ -43,4 +44,14 @@ pub record ReadyOmit (rule t parents : List ℕ) (by : Binders) (e i : ℕ) : Ty
   pub binders : Around rule (by .entry) (by .depth)
   pub inside : e < entryCount rule
   pub depth-is : by .depth ≡ around rule e
+  pub row-inside : i < rowCount t
+
+-- ---- for a set: no rule reaches the row (mode 2), or it is spare for each (mode 3)
+abbrev pub omitted : ℕ → List Formula → List Row → Row → Bool
+omitted m Fs D r = cond (eqb m 2) (not (reachedByAny Fs D r)) (spareForEach Fs D r)
+
+pub record ReadyEach (rules counts t parents : List ℕ) (i : ℕ) : Type 0 where
+  pub set-accepted : acceptedSet rules counts ≡ true
+  pub table-accepted : acceptedTable t ≡ true
+  pub has-parents : Parents t parents
   pub row-inside : i < rowCount t

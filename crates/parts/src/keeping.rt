@@ -1,6 +1,5 @@
 // Which rows of a device's table its part keeps.
-use super::chains::Binders;
-use super::omitting::omits;
+use super::omitting::omits_each;
 use super::parents::find_ends;
 use super::parents::find_parents;
 use super::words::row_count;
@@ -10,7 +9,7 @@ ghost use Prim.Native.Nat.{_<_};
 ghost use lib.ListN.{length, getD};
 ghost use Rattle.tables.specs.Words.{rowAt, rowCount, rows};
 ghost use Rattle.tables.specs.Rules.{one};
-ghost use Rattle.logic.specs.Formulas.{formula};
+ghost use Rattle.logic.specs.Formulas.{formulasOf};
 ghost use Rattle.parts.specs.Reaching.{Ends};
 ghost use Rattle.parts.specs.Keeping.{leftOut, stays, ReadyPart, ReadyRow, Keeps};
 
@@ -29,7 +28,8 @@ fn parent_left_out(parents: &[u16], kept: &[u8], row: usize) -> bool
 
 // 1 if a row stays, else 0. It stays if it passes the mode's test, and it is a root or its parent stays.
 fn kept_byte(
-    rule: &[u32],
+    rules: &[u32],
+    counts: &[u32],
     table: &[u32],
     parents: &[u16],
     ends: &[u16],
@@ -37,9 +37,9 @@ fn kept_byte(
     mode: u32,
     row: usize,
 ) -> u8
-    requires { ⌜ ReadyRow (now rule) (now table) (now parents) (now kept) mode row ⌝ }
+    requires { ⌜ ReadyRow (now rules) (now counts) (now table) (now parents) (now kept) mode row ⌝ }
     requires { ⌜ Ends (now table) (now ends) ⌝ }
-    ensures { λ r. ⌜ r ≡ one (stays mode (formula (now (rule .entry))) (rows (now (table .entry))) (rowAt (now (table .entry)) row)) ⌝ }
+    ensures { λ r. ⌜ r ≡ one (stays mode (formulasOf (now (rules .entry)) (now (counts .entry))) (rows (now (table .entry))) (rowAt (now (table .entry)) row)) ⌝ }
 {
     if parent_left_out(parents, kept, row) {
         return 0;
@@ -47,16 +47,16 @@ fn kept_byte(
     if mode == 1 {
         return 1;
     }
-    if omits(rule, table, parents, ends, Binders::none(), 0, row, mode) {
+    if omits_each(rules, counts, table, parents, ends, row, mode) {
         return 0;
     }
     1
 }
 
 // That byte of each row.
-pub(crate) fn kept_rows(rule: &[u32], table: &[u32], mode: u32) -> [u8; ROW_LIMIT]
-    requires { ⌜ ReadyPart (now rule) (now table) ⌝ }
-    ensures { λ r. ⌜ Keeps (now (rule .entry)) (now (table .entry)) mode r (rowCount (now (table .entry))) ⌝ }
+pub(crate) fn kept_rows(rules: &[u32], counts: &[u32], table: &[u32], mode: u32) -> [u8; ROW_LIMIT]
+    requires { ⌜ ReadyPart (now rules) (now counts) (now table) ⌝ }
+    ensures { λ r. ⌜ Keeps (formulasOf (now (rules .entry)) (now (counts .entry))) (now (table .entry)) mode r (rowCount (now (table .entry))) ⌝ }
 {
     let mut parents = [0u16; ROW_LIMIT];
     find_parents(table, &mut parents);
@@ -66,7 +66,7 @@ pub(crate) fn kept_rows(rule: &[u32], table: &[u32], mode: u32) -> [u8; ROW_LIMI
     let mut kept = [0u8; ROW_LIMIT];
     let mut i = 0;
     while i < n {
-        kept[i] = kept_byte(rule, table, &parents, &ends, &kept, mode, i);
+        kept[i] = kept_byte(rules, counts, table, &parents, &ends, &kept, mode, i);
         i += 1;
     }
     kept

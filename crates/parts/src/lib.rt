@@ -1,4 +1,4 @@
-// The part of its rows that a device sends, by the rule and the mode.
+// The part of its rows that a device sends, by the rule or the set of rules and the mode.
 mod calls;
 mod chains;
 mod device;
@@ -11,3 +11,4 @@ mod words;
 
 pub use calls::part;
 pub use calls::part_size;
+pub use calls::set_part;

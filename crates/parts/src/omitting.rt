@@ -1,16 +1,18 @@
-// Whether a row is left out by itself: in mode 2 since no quantifier reaches it, in mode 3 since it is spare.
+// Whether a row is left out by itself: in mode 2 since no quantifier reaches it, in mode 3 since it is spare; for a rule, and for each
+// rule of a set.
 use super::chains::Binders;
 use super::chains::Chain;
 use super::chains::climb;
 use super::device::reads;
 use super::words::entry_at;
+use tables::ENTRY_WORDS;
 ghost use mathlib.Core.Path.{_≡_};
 ghost use Rattle.base.specs.Lists.{all};
-ghost use Rattle.tables.specs.Words.{rows};
-ghost use Rattle.logic.specs.Formulas.{formulaAt};
+ghost use Rattle.tables.specs.Words.{rowAt, rows};
+ghost use Rattle.logic.specs.Formulas.{formulaAt, formulasOf};
 ghost use Rattle.engine.specs.Ready.{quantifierOf};
 ghost use Rattle.parts.specs.Reaching.{chainOf, Ends};
-ghost use Rattle.parts.specs.Omitting.{letsOut, ReadyBody, omittedAt, ReadyOmit};
+ghost use Rattle.parts.specs.Omitting.{letsOut, ReadyBody, omittedAt, ReadyOmit, omitted, ReadyEach};
 
 // Whether a quantifier with that body lets a row be left out, given how it reaches the row.
 fn lets_out(
@@ -70,4 +72,32 @@ pub(crate) fn omits(
         return omits(rule, table, parents, ends, by.with(entry), a, row, mode);
     }
     false
+}
+
+// Whether each rule of a set lets a row be left out: the first that needs it decides.
+pub(crate) fn omits_each(
+    rules: &[u32],
+    counts: &[u32],
+    table: &[u32],
+    parents: &[u16],
+    ends: &[u16],
+    row: usize,
+    mode: u32,
+) -> bool
+    requires { ⌜ ReadyEach (now rules) (now counts) (now table) (now parents) row ⌝ }
+    requires { ⌜ Ends (now table) (now ends) ⌝ }
+    ensures { λ r. ⌜ r ≡ omitted mode (formulasOf (now (rules .entry)) (now (counts .entry))) (rows (now (table .entry))) (rowAt (now (table .entry)) row) ⌝ }
+{
+    let mut before = 0;
+    let mut i = 0;
+    while i < counts.len() {
+        let end = before + counts[i] as usize;
+        let rule = &rules[ENTRY_WORDS * before..ENTRY_WORDS * end];
+        if !omits(rule, table, parents, ends, Binders::none(), 0, row, mode) {
+            return false;
+        }
+        before = end;
+        i += 1;
+    }
+    true
 }

@@ -1,26 +1,31 @@
 -- The published truth of a rule on an accepted table is the verdict on its rows. Assumes nothing.
-use Prim.Native.Nat.{ℕ, suc, _<_}
+use Prim.Native.Nat.{ℕ, suc, _≤_, _<_}
 use native.Mathlib.Omega.{arith}
 use mathlib.Core.Path.{_≡_, refl, sym, ap, ap₂, subst, _∙_}
 use mathlib.Core.Bool.{Bool, true, false, not, cond, _&&_, _||_}
 use mathlib.Core.List.{List, [], _∷_, _++_, map, append-nil, append-assoc, List·Memᴰ·head, List·Memᴰ·tail}
-use lib.Dec.{eqb, ltb}
-use borrow.Author.Tests.{eqb-true, eqb-false, eq-eqb, ltb-true}
+use lib.ListN.{length, drop}
+use lib.Dec.{eqb, ltb, leb}
+use borrow.Author.Tests.{eqb-true, eqb-false, eq-eqb, ltb-true, le-leb}
 use Rattle.base.specs.Lists.{_∈_, select, all, any}
 use Rattle.base.proofs.Bools.{and-left, and-right, and-both, or-second}
 use Rattle.base.proofs.Lists.{select-out}
-use Rattle.tables.specs.Answers.{andThen}
+use Rattle.tables.specs.Answers.{andThen, fitting, output}
 use Rattle.tables.specs.Words.{rows}
-use Rattle.tables.specs.Rules.{one, checkRule}
-use Rattle.tables.specs.Tables.{root, checkTable}
+use Rattle.tables.specs.Rules.{one, checkRule, acceptedRule}
+use Rattle.tables.specs.Tables.{root, checkTable, acceptedTable}
 use Rattle.tables.specs.declared.Row.{Row}
+use Rattle.tables.specs.declared.Answer.{Answer}
 use Rattle.tables.specs.declared.Answer.the-variants.{Done}
-use Rattle.tables.proofs.Answers.{andThen-passed}
+use Rattle.tables.proofs.Answers.{andThen-passed, unless-passed}
 use Rattle.tables.proofs.Accepted.{parent-device, parent-at}
-use Rattle.logic.specs.Formulas.{Formula, negation, joined, quantified, compared, Connective, and, or, implies, Quantifier, every, some, Comparison, equal, less, atMost, Over, roots, under, Operand, variable, constant, formula}
-use Rattle.logic.specs.Verdict.{connect, compare, Place, bound, Bindings, noneBound, bind, named, hangs, ranges, fold, valueAt, valueOf, holds, verdict, verdictAnswer}
+use Rattle.sets.specs.Sets.{rulesOf, acceptedSet}
+use Rattle.sets.proofs.Sets.{rule-accepted}
+use Rattle.logic.specs.Formulas.{Formula, negation, joined, quantified, compared, Connective, and, or, implies, Quantifier, every, some, Comparison, equal, less, atMost, Over, roots, under, Operand, variable, constant, formula, formulasOf}
+use Rattle.logic.specs.Verdict.{connect, compare, Place, bound, Bindings, noneBound, bind, named, hangs, ranges, fold, valueAt, valueOf, holds, verdict, verdictAnswer, verdictBytes, setVerdictsAnswer, setVerdictsOut}
+use Rattle.logic.proofs.Calls.{verdict-count, verdicts-are, bytes-are}
 use Rattle.published.specs.Published.{Tree, CL, Path, _is_, v, _⊨_}
-use Rattle.published.specs.Stated.{Standing, Standings, noStanding, stand, pathTo, term, connective, quantifier, comparison, stated, treeOf, tree, published, Agreed, Answered}
+use Rattle.published.specs.Stated.{Standing, Standings, noStanding, stand, pathTo, term, connective, quantifier, comparison, stated, treeOf, tree, published, Agreed, Answered, SetAnswered}
 use Rattle.published.proofs.Rows.{Fit, fit}
 use Rattle.published.proofs.Descent.{child, values, Siblings, step}
 use Rattle.published.proofs.Scoped.{scoped, overBound, operandBound, rule-scoped}
@@ -151,3 +156,32 @@ answered rule pool r t =
     andThen-passed (checkRule rule) (andThen (checkTable pool) (Done (one (verdict (formula rule) (rows pool))))) r
     ∙ andThen-passed (checkTable pool) (Done (one (verdict (formula rule) (rows pool)))) t
     ∙ ap (λ (b : Bool). Done (one b)) (sym (agreed rule pool r t))
+
+-- a set's bytes, rule by rule
+module _ (rules counts pool : List ℕ) (s : acceptedSet rules counts ≡ true) (t : acceptedTable pool ≡ true) where
+  abbrev bytes : List ℕ
+  bytes = verdictBytes (formulasOf rules counts) (rows pool)
+
+  truths : (rs : List (List ℕ)) → ((r : List ℕ) → r ∈ rs → acceptedRule r ≡ true)
+      → verdictBytes (map formula rs) (rows pool) ≡ map (λ rule. one (published rule pool)) rs
+  truths [] h = refl
+  truths (r ∷ rs) h = ap₂ _∷_ (ap one (sym (agreed r pool (h r (List·Memᴰ·head refl)) t))) (truths rs (λ x m. h x (List·Memᴰ·tail m)))
+
+  byte-count : length bytes ≡ length counts
+  byte-count = verdict-count rules counts (rows pool)
+
+  module _ (out : List ℕ) (l : length counts ≤ length out) where
+    fits : fitting bytes (length out) ≡ Done (length bytes)
+    fits = unless-passed (leb (length bytes) (length out)) 17 _ (le-leb (length bytes) (length out) (omega (arith, byte-count)))
+
+    pub set-bytes : (setVerdictsAnswer rules counts pool (length out) ≡ Done (length counts))
+        × (setVerdictsOut rules counts pool out ≡ map (λ rule. one (published rule pool)) (rulesOf rules counts) ++ drop (length counts) out)
+    set-bytes = (
+      verdicts-are rules counts pool s t (length out) ∙ fits ∙ ap Done byte-count,
+      bytes-are rules counts pool s t out
+          ∙ ap (λ (a : Answer). output a bytes out) fits
+          ∙ ap₂ (λ (b : List ℕ) (n : ℕ). b ++ drop n out) (truths (rulesOf rules counts) (λ r m. rule-accepted rules counts s m)) byte-count,
+    )
+
+pub set-answered : SetAnswered
+set-answered rules counts pool out s t l = set-bytes rules counts pool s t out l

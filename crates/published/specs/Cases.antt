@@ -1,9 +1,9 @@
--- 01's worked pools (a) to (l), the reductions that lose a verdict, readings over roots, and a table on which the published meaning is not
--- that of rows: the rows of one table, with one test over all of them, proved in proofs/Cases. Assumes nothing.
-use Prim.Native.Nat.{ℕ, zero, suc, _+_}
+-- 01's worked pools (a) to (l), the reductions that lose a verdict, readings over roots, sets of rules, and a table on which the published
+-- meaning is not that of rows: the rows of one table, with one test over all of them, proved in proofs/Cases. Assumes nothing.
+use Prim.Native.Nat.{ℕ, zero, suc, _+_, _-_}
 use mathlib.Core.Path.{_≡_}
 use mathlib.Core.Bool.{Bool, true, false, not, cond, _&&_}
-use mathlib.Core.List.{List, [], _∷_, _++_}
+use mathlib.Core.List.{List, [], _∷_, _++_, map}
 use lib.ListN.{length, drop, replicate}
 use lib.Dec.{eqb}
 use Rattle.base.specs.Lists.{select, concatMap, all}
@@ -15,10 +15,11 @@ use Rattle.tables.specs.Joining.{joinAnswer, joinPool}
 use Rattle.tables.specs.declared.Row.{Row}
 use Rattle.tables.specs.declared.Answer.{Answer}
 use Rattle.tables.specs.declared.Answer.the-variants.{Done, Refused}
+use Rattle.sets.specs.Sets.{rulesOf, checkSet}
 use Rattle.logic.specs.Formulas.{formula}
-use Rattle.logic.specs.Verdict.{verdict, verdictAnswer}
+use Rattle.logic.specs.Verdict.{verdict, verdictAnswer, setVerdictsAnswer, setVerdictsOut}
 use Rattle.logic.specs.Marks.{marksAnswer, marksOut}
-use Rattle.logic.specs.Parts.{spare, partAnswer, partOut}
+use Rattle.logic.specs.Parts.{spare, partAnswer, partOut, setPartAnswer, setPartOut}
 use Rattle.published.specs.Published.{CL, NOT, OR, IMPLIES, SOME, EACH, EQUAL, _is_}
 use Rattle.published.specs.Stated.{noStanding, stated, published}
 
@@ -99,6 +100,18 @@ ruleAddresses =
 abbrev pub router : ℕ → List ℕ
 router address = row 1 1 0 0 1 10 ++ row 1 2 1 1 2 1 ++ row 1 3 2 2 3 77 ++ row 1 4 1 1 2 2 ++ row 1 5 4 2 3 address
 
+-- some a has under it only a's with smaller values
+abbrev pub someAbove : List ℕ
+someAbove = entry 6 1 0 1 ++ entry 5 2 1 1 ++ entry 8 1 0 0
+
+-- every a is at most 0 or at most itself, and there is an a
+abbrev pub keepsRoots : List ℕ
+keepsRoots = entry 2 1 5 0 ++ entry 5 2 0 1 ++ entry 3 4 3 0 ++ entry 9 0 0 0 ++ entry 9 0 1 0 ++ entry 6 6 0 1 ++ entry 7 0 0 0
+
+-- three roots, an a among them with an a under it
+abbrev pub rootsAndChild : List ℕ
+rootsAndChild = row 2 1 0 0 3 1 ++ row 2 2 0 0 3 3 ++ row 2 3 0 0 1 0 ++ row 2 4 3 1 1 3
+
 -- ---- what a case gives and expects
 -- a row by (device, at)
 abbrev pub key : ℕ → ℕ → List ℕ
@@ -115,6 +128,10 @@ pub data Case : Type 0 where
   ruleChecked : List ℕ → Answer → Case
   tableChecked : List ℕ → Answer → Case
   joins : List ℕ → List ℕ → Answer → Case
+  -- what the checks of a set answer; rules, counts, pool: the bytes; rules, counts, mode, table: the rows sent
+  setChecked : List ℕ → List ℕ → Answer → Case
+  setJudged : List ℕ → List ℕ → List ℕ → List ℕ → Case
+  setSends : List ℕ → List ℕ → ℕ → List ℕ → List ℕ → Case
   -- rule, a table that is not accepted: its refusal, the published truth, the verdict on rows
   differs : List ℕ → List ℕ → Answer → Bool → Bool → Case
 
@@ -158,6 +175,15 @@ right (tableChecked table answer) = sameAnswer (checkTable table) answer
 right (joins s t answer) =
     sameAnswer (joinAnswer (s ++ buffer (length t)) (length s) t) answer
     && sameWords (joinPool (s ++ buffer (length t)) (length s) t) (s ++ cond (isDone answer) t (buffer (length t)))
+right (setChecked rules counts answer) = sameAnswer (checkSet rules counts) answer
+right (setJudged rules counts pool bytes) =
+    sameAnswer (setVerdictsAnswer rules counts pool (length counts)) (Done (length bytes))
+    && sameAnswer (setVerdictsAnswer rules counts pool (length counts - 1)) (Refused 17 0)
+    && sameWords (setVerdictsOut rules counts pool (buffer (length bytes + 1))) (bytes ++ buffer 1)
+    && sameWords (map (λ rule. one (published rule pool)) (rulesOf rules counts)) bytes
+right (setSends rules counts mode table sent) =
+    sameAnswer (setPartAnswer rules counts table mode (length sent)) (Done (rowCount sent))
+    && sameWords (setPartOut rules counts table mode (buffer (length table))) (sent ++ drop (length sent) (buffer (length table)))
 right (differs rule pool answer truth onRows) =
     acceptedRule rule && sameAnswer (checkTable pool) answer
     && sameBool (published rule pool) truth
@@ -238,6 +264,37 @@ cases =
     -- paths of two pairs
     ∷ judged ruleAddresses (router 77) false (key 1 1 ++ key 1 2 ++ key 1 3 ++ key 1 4 ++ key 1 5)
     ∷ judged ruleAddresses (router 78) true (key 1 1 ++ key 1 2 ++ key 1 3 ++ key 1 4 ++ key 1 5)
+    -- a set of rules: the number of rules
+    ∷ setChecked (ruleA ++ ruleB) (6 ∷ 9 ∷ []) (Done 2)
+    -- 20: no counts, more than 32, counts that don't add up, a leftover word, counts that add up modulo 2^32 alone
+    ∷ setChecked [] [] (Refused 20 0)
+    ∷ setChecked [] (replicate 33 0) (Refused 20 0)
+    ∷ setChecked (ruleA ++ ruleB) (6 ∷ 8 ∷ []) (Refused 20 0)
+    ∷ setChecked (ruleA ++ ruleB ++ 0 ∷ []) (6 ∷ 9 ∷ []) (Refused 20 0)
+    ∷ setChecked (everyIs 1) (4294967295 ∷ 3 ∷ []) (Refused 20 0)
+    -- 1 has the place of its rule's first entry, also where the rule has none
+    ∷ setChecked [] (replicate 32 0) (Refused 1 0)
+    ∷ setChecked (everyIs 1) (2 ∷ 0 ∷ []) (Refused 1 2)
+    -- places are counted from the first entry of the set, a child's number from its own rule's
+    ∷ setChecked (ruleA ++ nested 0 7) (6 ∷ 8 ∷ []) (Refused 6 12)
+    ∷ setChecked (everyIs 1 ++ entry 5 3 0 1 ++ entry 7 0 1 1) (2 ∷ 2 ∷ []) (Refused 4 2)
+    -- rule by rule: 7 of the first before 2 of the second
+    ∷ setChecked (entry 5 1 0 1 ++ entry 7 1 1 1 ++ entry 0 0 0 0) (2 ∷ 1 ∷ []) (Refused 7 1)
+    -- one byte per rule
+    ∷ setJudged (ruleA ++ ruleB) (6 ∷ 9 ∷ []) (D1 ++ D2) (1 ∷ 1 ∷ [])
+    ∷ setJudged (ruleA ++ ruleB) (6 ∷ 9 ∷ []) (D1 ++ D2 ++ D3) (0 ∷ 1 ∷ [])
+    ∷ setJudged (ruleA ++ ruleB) (6 ∷ 9 ∷ []) (D1 ++ D2 ++ D4) (1 ∷ 0 ∷ [])
+    -- reached by any rule; spare for each
+    ∷ setSends (everyIs 1 ++ ruleA) (2 ∷ 6 ∷ []) 2 D1 (row 1 1 0 0 1 11 ++ row 1 2 1 1 2 2)
+    ∷ setSends (ruleA ++ ruleB) (6 ∷ 9 ∷ []) 3 D1 (row 1 1 0 0 1 11 ++ row 1 2 1 1 2 2)
+    ∷ setSends (ruleA ++ ruleB) (6 ∷ 9 ∷ []) 3 D2 []
+    -- the union of the rules' full parts loses a verdict: the child isn't spare for the first rule, and its parent is kept for the second
+    ∷ sends someAbove 3 rootsAndChild []
+    ∷ sends keepsRoots 3 rootsAndChild (row 2 3 0 0 1 0)
+    ∷ setSends (someAbove ++ keepsRoots) (3 ∷ 7 ∷ []) 3 rootsAndChild (row 2 3 0 0 1 0 ++ row 2 4 3 1 1 3)
+    ∷ setJudged (someAbove ++ keepsRoots) (3 ∷ 7 ∷ []) rootsAndChild (0 ∷ 1 ∷ [])
+    ∷ setJudged (someAbove ++ keepsRoots) (3 ∷ 7 ∷ []) (row 2 3 0 0 1 0 ++ row 2 4 3 1 1 3) (0 ∷ 1 ∷ [])
+    ∷ setJudged (someAbove ++ keepsRoots) (3 ∷ 7 ∷ []) (row 2 3 0 0 1 0) (1 ∷ 1 ∷ [])
     -- without check 12 the sets of values and the rows differ: two nodes 1 = 5, of which one has a child; so on two
     -- devices, and under one parent
     ∷ differs everyHasOne (row 1 1 0 0 1 5 ++ row 1 2 1 1 2 1 ++ row 1 3 0 0 1 5) (Refused 12 2) true false

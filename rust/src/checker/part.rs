@@ -1,9 +1,9 @@
-//! The rows that one device sends.
+//! The rows that one device sends, for a rule or for several.
 
 use super::files::put;
-use super::reach::Reach;
+use super::reach::reached_rows;
 use super::spare::spare_rows;
-use super::table::{Row, ROW_WORDS};
+use super::table::{parent_of, words_of, Row, ROW_WORDS};
 use super::tests_of_line::{test, test_each};
 use super::verdict::accepted;
 use super::Entry;
@@ -16,30 +16,38 @@ pub fn part(rule: &[u32], table: &[u32], mode: u32, part: &mut [u32]) -> Answer 
 /// The words of the part.
 pub fn part_of(rule: &[u32], table: &[u32], mode: u32) -> Result<Vec<u32>, Refusal> {
     let (entries, rows) = accepted(rule, table)?;
+    part_of_rules(&[entries], &rows, mode)
+}
+
+/// The same for several rules, all of them accepted.
+pub fn part_of_rules(rules: &[Vec<Entry>], rows: &[Row], mode: u32) -> Result<Vec<u32>, Refusal> {
     test(13, !(1..=3).contains(&mode))?;
     test_each(14, rows.len(), |place| rows[place].device != rows[0].device)?;
     let sent = match mode {
         1 => vec![true; rows.len()],
-        2 => branch(&entries, &rows),
-        _ => full(&entries, &rows),
+        2 => with_ancestors(rows, &for_any(rules, rows, reached_rows)),
+        _ => with_ancestors(rows, &for_any(rules, rows, kept_rows)),
     };
-    Ok(selection(table, &sent))
+    let sent: Vec<Row> = rows.iter().zip(sent).filter(|(_, sent)| *sent).map(|(row, _)| *row).collect();
+    Ok(words_of(&sent))
 }
 
-fn branch(entries: &[Entry], rows: &[Row]) -> Vec<bool> {
-    let reach = Reach::new(entries, rows);
-    let reached: Vec<bool> = (0..rows.len()).map(|row| reach.is_reached(row)).collect();
-    (0..rows.len()).map(|row| reach.with_ancestors(row, |row| reached[row])).collect()
+fn kept_rows(entries: &[Entry], rows: &[Row]) -> Vec<bool> {
+    spare_rows(entries, rows).into_iter().map(|spare| !spare).collect()
 }
 
-fn full(entries: &[Entry], rows: &[Row]) -> Vec<bool> {
-    let reach = Reach::new(entries, rows);
-    let spare = spare_rows(entries, rows);
-    (0..rows.len()).map(|row| reach.with_ancestors(row, |row| !spare[row])).collect()
+/// Whether each row passes for any of the rules.
+fn for_any(rules: &[Vec<Entry>], rows: &[Row], pass: fn(&[Entry], &[Row]) -> Vec<bool>) -> Vec<bool> {
+    let passes: Vec<Vec<bool>> = rules.iter().map(|entries| pass(entries, rows)).collect();
+    (0..rows.len()).map(|row| passes.iter().any(|of_rule| of_rule[row])).collect()
 }
 
-/// The words of the rows that are sent, in order.
-fn selection(table: &[u32], sent: &[bool]) -> Vec<u32> {
-    let rows = table.chunks(ROW_WORDS).zip(sent);
-    rows.filter(|(_, &sent)| sent).flat_map(|(row, _)| row.iter().copied()).collect()
+/// Whether each row passes with all its ancestors.
+fn with_ancestors(rows: &[Row], passes: &[bool]) -> Vec<bool> {
+    let mut all_pass: Vec<bool> = vec![];
+    for (row, &passes) in passes.iter().enumerate() {
+        // A parent stands before its children.
+        all_pass.push(passes && parent_of(rows, row).is_none_or(|parent| all_pass[parent]));
+    }
+    all_pass
 }

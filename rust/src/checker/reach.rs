@@ -13,6 +13,12 @@ pub fn fewest_around(entries: &[Entry], rows: &[Row]) -> Vec<Option<usize>> {
     (0..rows.len()).map(around).collect()
 }
 
+/// Whether some quantifier reaches each row.
+pub fn reached_rows(entries: &[Entry], rows: &[Row]) -> Vec<bool> {
+    let reach = Reach::new(entries, rows);
+    (0..rows.len()).map(|row| !reach.reaching(row).is_empty()).collect()
+}
+
 pub struct Reach<'a> {
     entries: &'a [Entry],
     rows: &'a [Row],
@@ -53,15 +59,5 @@ impl<'a> Reach<'a> {
         bound.resize(around.len(), None);
         bound.push(Some(row));
         Some(bound)
-    }
-
-    pub fn is_reached(&self, row: usize) -> bool {
-        !self.reaching(row).is_empty()
-    }
-
-    /// Whether the row and all its ancestors pass a test.
-    pub fn with_ancestors(&self, row: usize, test: impl Fn(usize) -> bool) -> bool {
-        let mut line = std::iter::successors(Some(row), |&row| self.parents[row]);
-        line.all(test)
     }
 }

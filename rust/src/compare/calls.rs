@@ -8,6 +8,8 @@ pub use files_entry::*;
 pub use lower::*;
 #[cfg(feature = "parts")]
 pub use parts::*;
+#[cfg(feature = "sets")]
+pub use sets::*;
 
 #[cfg(feature = "lower")]
 mod lower {
@@ -178,5 +180,67 @@ mod files_entry {
             let (after, text) = (String::from_utf8_lossy(&after), String::from_utf8_lossy(text.get()));
             format!("report {rule:?} {pool:?}: {expected} {after:?}, found {found} {text:?}")
         });
+    }
+}
+
+#[cfg(feature = "sets")]
+mod sets {
+    use crate::compare::{Case, Lent};
+    use crate::generate::Set;
+    use crate::{checker, ffi};
+
+    pub fn check_set(case: &mut Case, set: &Set) {
+        let lent = LentSet::of(set);
+        let expected = checker::check_set(&set.rules, &set.counts);
+        let found = ffi::check_set(lent.rules.get(), lent.counts.get());
+        case.compared(expected == found && lent.holds(set), expected, || {
+            format!("check_set {set:?}: {expected:?}, found {found:?}")
+        });
+    }
+
+    pub fn set_verdicts(case: &mut Case, set: &Set, pool: &[u32], output: &[u8]) {
+        let mut after = output.to_vec();
+        let expected = checker::set_verdicts(&set.rules, &set.counts, pool, &mut after);
+        let (lent, lent_pool, mut verdicts) = (LentSet::of(set), Lent::of(pool), Lent::of(output));
+        let found =
+            ffi::set_verdicts(lent.rules.get(), lent.counts.get(), lent_pool.get(), verdicts.get_mut());
+        let kept = lent.holds(set) && lent_pool.holds(pool);
+        case.compared(expected == found && kept && verdicts.holds(&after), expected, || {
+            format!(
+                "set_verdicts {set:?} {pool:?} {output:?}: {expected:?} {after:?}, found {found:?} {:?}",
+                verdicts.get()
+            )
+        });
+    }
+
+    pub fn set_part(case: &mut Case, set: &Set, table: &[u32], mode: u32, output: &[u32]) {
+        let mut after = output.to_vec();
+        let expected = checker::set_part(&set.rules, &set.counts, table, mode, &mut after);
+        let (lent, lent_table, mut part) = (LentSet::of(set), Lent::of(table), Lent::of(output));
+        let found =
+            ffi::set_part(lent.rules.get(), lent.counts.get(), lent_table.get(), mode, part.get_mut());
+        let kept = lent.holds(set) && lent_table.holds(table);
+        case.compared(expected == found && kept && part.holds(&after), expected, || {
+            format!(
+                "set_part {set:?} {table:?} {mode} {output:?}: {expected:?} {after:?}, found {found:?} {:?}",
+                part.get()
+            )
+        });
+    }
+
+    /// Both buffers of a set.
+    struct LentSet {
+        rules: Lent<u32>,
+        counts: Lent<u32>,
+    }
+
+    impl LentSet {
+        fn of(set: &Set) -> LentSet {
+            LentSet { rules: Lent::of(&set.rules), counts: Lent::of(&set.counts) }
+        }
+
+        fn holds(&self, set: &Set) -> bool {
+            self.rules.holds(&set.rules) && self.counts.holds(&set.counts)
+        }
     }
 }

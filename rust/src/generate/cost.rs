@@ -1,6 +1,9 @@
 //! How much work a rule on a table may take at most, so that random cases stay quick.
 
-use crate::checker::{accepted_rule, accepted_table, devices_of, Entry, Quantifier, Row, POOL, RULE};
+use super::sets::Set;
+use crate::checker::{
+    accepted_rule, accepted_set, accepted_table, devices_of, Entry, Quantifier, Row, POOL, RULE,
+};
 
 /// An upper limit of the rows that a verdict walks; 0 for a refused rule or pool.
 pub fn verdict_cost(rule: &[u32], pool: &[u32]) -> u64 {
@@ -22,6 +25,15 @@ pub fn files_cost(rule_file: &[u8], pool_file: &[u8]) -> u64 {
     }
     let readings = devices_of(&pool).into_iter().map(|device| reading_cost(&rule, device));
     readings.fold(verdict_cost(&rule, &pool), u64::max)
+}
+
+/// The most that all rules of a set may take, in verdicts or in readings; 0 for a refused set or table.
+pub fn set_cost(set: &Set, table: &[u32]) -> u64 {
+    if accepted_set(&set.rules, &set.counts).is_err() {
+        return 0;
+    }
+    let of_rule = |rule: &[u32]| verdict_cost(rule, table).max(reading_cost(rule, table));
+    set.each().into_iter().map(of_rule).fold(0, u64::saturating_add)
 }
 
 struct Cost {

@@ -105,7 +105,11 @@ fn wrong_word(random: &mut Random, words: &mut [u32]) {
 }
 
 /// Changes one child place of one entry, given the entry's place and the number of entries.
-fn on_some_child(random: &mut Random, rule: &mut [u32], child: impl Fn(&mut Random, usize, usize) -> u32) {
+pub fn on_some_child(
+    random: &mut Random,
+    rule: &mut [u32],
+    child: impl Fn(&mut Random, usize, usize) -> u32,
+) {
     let entries = rule.len() / ENTRY_WORDS;
     let mut places = vec![];
     for place in 0..entries {

@@ -1,7 +1,8 @@
 //! Lengths of output buffers, in words or bytes.
 
+use super::sets::Set;
 use crate::answer::Answer;
-use crate::checker::{part, ROW_WORDS};
+use crate::checker::{part, set_part, ROW_WORDS};
 use crate::random::Random;
 
 /// Each length around the answer: none, 1 less, the answer, 1 more, much longer.
@@ -36,7 +37,16 @@ pub fn mostly_enough(random: &mut Random, enough: usize, answer: usize) -> usize
 
 /// The words of the part; none if it is refused.
 pub fn words_sent(rule: &[u32], device: &[u32], mode: u32) -> usize {
-    match part(rule, device, mode, &mut vec![0; device.len()]) {
+    words_of_part(part(rule, device, mode, &mut vec![0; device.len()]))
+}
+
+/// The same of a set.
+pub fn words_sent_for(set: &Set, device: &[u32], mode: u32) -> usize {
+    words_of_part(set_part(&set.rules, &set.counts, device, mode, &mut vec![0; device.len()]))
+}
+
+fn words_of_part(answer: Answer) -> usize {
+    match answer {
         Answer::Done(rows) => rows * ROW_WORDS,
         _ => 0,
     }

@@ -7,6 +7,7 @@ mod damaged_collisions;
 mod damaged_depths;
 mod damaged_file;
 mod damaged_rule;
+mod damaged_set;
 mod damaged_table;
 mod depths;
 mod faults;
@@ -15,25 +16,32 @@ mod lengths;
 mod library_hash;
 mod nested;
 mod pools;
+mod requests;
 mod rules;
+mod sets;
 #[cfg(test)]
 mod tests;
 mod together;
 mod vocabulary;
 
 pub use collisions::{colliding_rows, two_colliding_tables};
-pub use cost::{files_cost, reading_cost, verdict_cost};
+pub use cost::{files_cost, reading_cost, set_cost, verdict_cost};
 pub use damaged_collisions::damaged_collisions;
 pub use damaged_depths::damaged_depths;
 pub use damaged_file::{damaged_file, file_of_words};
 pub use damaged_rule::{any_rule, damage_rule, damaged_rule, RULE_FAULTS};
+pub use damaged_set::{damage_set, damaged_set, SetFault, SET_FAULTS};
 pub use damaged_table::{any_table, damage_table, damaged_table, TABLE_FAULTS};
 pub use known_table::KnownTable;
-pub use lengths::{lengths_around, mostly_enough, one_length_around, some_lengths_around, words_sent};
+pub use lengths::{
+    lengths_around, mostly_enough, one_length_around, some_lengths_around, words_sent, words_sent_for,
+};
 pub use library_hash::{ats_of_hash, library_hash, place_hash, twin_hash, FACTORS, STEPS};
 pub use nested::{nested_rule, NestedRule};
 pub use pools::{pool, pool_of, PoolShape};
+pub use requests::{unknown_mode, with_another_device};
 pub use rules::{rule, rule_of, RuleShape};
+pub use sets::{set, set_and_devices, set_and_pool, set_and_roots, Set};
 pub use together::{
     damaged_together, deep_rows, nested_rule_and_table, rule_and_deep_rows, rule_and_devices, rule_and_pool,
     rule_and_roots, rule_and_siblings, Together,

@@ -3,7 +3,8 @@
 use super::*;
 use crate::answer::Answer;
 use crate::checker::{
-    accepted_rule, accepted_table, check_rule, check_table, part, rows_of, Entry, MOST_NESTED, ROW_WORDS,
+    accepted_rule, accepted_table, check_rule, check_set, check_table, part, rows_of, Entry, MOST_NESTED,
+    MOST_RULES, ROW_WORDS,
 };
 use crate::random::Random;
 
@@ -149,4 +150,50 @@ fn faults_are_found_alone() {
         damage_table(random, &mut table, fault);
         check_table(&table).number()
     });
+}
+
+#[test]
+fn sets_are_accepted() {
+    let (mut single, mut largest) = (0, 0);
+    for seed in 0..3_000 {
+        let random = &mut Random::new(seed);
+        let vocabulary = Vocabulary::new(random);
+        let limit = Together { rows: 40, cost: 20_000 };
+        let (pool_set, pool) = set_and_pool(random, limit);
+        let (device_set, devices) = set_and_devices(random, limit);
+        let (root_set, roots) = set_and_roots(random, limit.cost);
+        for set in [set(random, &vocabulary), pool_set, device_set, root_set] {
+            assert_eq!(
+                check_set(&set.rules, &set.counts),
+                Answer::Done(set.counts.len()),
+                "seed {seed}: {set:?}"
+            );
+            single += (set.counts.len() == 1) as u32;
+            largest += (set.counts.len() == MOST_RULES) as u32;
+        }
+        for table in [pool, devices.concat(), roots] {
+            assert_eq!(check_table(&table).number(), 0, "seed {seed}: {table:?}");
+        }
+    }
+    assert!(single >= 500 && largest >= 300, "{single} of one rule, {largest} of as many as may be");
+}
+
+/// A fault put in alone is mostly the one that is found. Any rule may be at fault.
+#[test]
+fn faults_of_sets_are_found_alone() {
+    for (fault, number) in SET_FAULTS {
+        let (mut found, mut later) = (0, 0);
+        for seed in 0..1_000 {
+            let random = &mut Random::new(seed);
+            let vocabulary = Vocabulary::new(random);
+            let mut set = set(random, &vocabulary);
+            damage_set(random, &mut set, fault);
+            let answer = check_set(&set.rules, &set.counts);
+            let is_found = if number == 0 { answer.number() != 0 } else { answer.number() == number };
+            found += is_found as u32;
+            later += matches!(answer, Answer::Refused(refusal) if refusal.place > 0) as u32;
+        }
+        assert!(found >= 500, "{fault:?} was found {found} times");
+        assert!(number == 20 || later >= 250, "{fault:?} had a place above 0 only {later} times");
+    }
 }

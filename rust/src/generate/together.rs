@@ -64,14 +64,7 @@ pub fn rule_and_roots(random: &mut Random, cost: u64) -> (Vec<u32>, Vec<u32>) {
     loop {
         let names = random.between(2, 3) as u32;
         let vocabulary = Vocabulary { names: (1..=names).collect(), ..Vocabulary::new(random) };
-        let shape = RuleShape {
-            entries: random.between(5, 24),
-            nested: random.between(2, MOST_NESTED),
-            weights: random.pick(&[[1, 6, 4], [1, 8, 2], [2, 4, 4]]),
-            sides: Sides::Any,
-            roots: random.pick(&[80, 100]),
-        };
-        let rule = rule_of(random, &vocabulary, shape);
+        let rule = rule_over_roots(random, &vocabulary);
         let table = device_of_roots(random, &vocabulary);
         if reading_cost(&rule, &table) <= cost {
             return (rule, table);
@@ -79,8 +72,19 @@ pub fn rule_and_roots(random: &mut Random, cost: u64) -> (Vec<u32>, Vec<u32>) {
     }
 }
 
+pub fn rule_over_roots(random: &mut Random, vocabulary: &Vocabulary) -> Vec<u32> {
+    let shape = RuleShape {
+        entries: random.between(5, 24),
+        nested: random.between(2, MOST_NESTED),
+        weights: random.pick(&[[1, 6, 4], [1, 8, 2], [2, 4, 4]]),
+        sides: Sides::Any,
+        roots: random.pick(&[80, 100]),
+    };
+    rule_of(random, vocabulary, shape)
+}
+
 /// One device with 2 to 12 roots, not all of one name, and a few rows under them.
-fn device_of_roots(random: &mut Random, vocabulary: &Vocabulary) -> Vec<u32> {
+pub fn device_of_roots(random: &mut Random, vocabulary: &Vocabulary) -> Vec<u32> {
     loop {
         let (rows, roots) = (random.between(2, 16), random.pick(&[70, 85, 100]));
         let shape = PoolShape { devices: 1, roots, ..PoolShape::with_rows(random, rows) };
@@ -164,16 +168,23 @@ pub fn deep_rows(random: &mut Random, vocabulary: &Vocabulary, devices: usize, r
 pub fn rule_and_devices(random: &mut Random, limit: Together) -> (Vec<u32>, Vec<Vec<u32>>) {
     loop {
         let (rule, pool) = rule_and_pool(random, limit);
-        let mut devices: Vec<Vec<u32>> = devices_of(&pool).into_iter().map(|own| own.to_vec()).collect();
+        let devices = devices_of(&pool);
         let reading: u64 = devices.iter().fold(0, |cost, own| cost.saturating_add(reading_cost(&rule, own)));
         if reading > limit.cost {
             continue;
         }
-        while random.chance(25) {
-            devices.insert(random.below(devices.len() + 1), vec![]);
-        }
+        let devices = with_empty_devices(random, &devices);
         return (rule, devices);
     }
+}
+
+/// The tables of these devices, at times with tables without rows among them.
+pub fn with_empty_devices(random: &mut Random, devices: &[&[u32]]) -> Vec<Vec<u32>> {
+    let mut devices: Vec<Vec<u32>> = devices.iter().map(|own| own.to_vec()).collect();
+    while random.chance(25) {
+        devices.insert(random.below(devices.len() + 1), vec![]);
+    }
+    devices
 }
 
 /// A fault or several in the rule, in the pool or in both.

@@ -4,23 +4,64 @@ use mathlib.Core.Path.{ap, _∙_}
 use mathlib.Core.List.{_++_}
 use native.Mathlib.Omega.{arith}
 use lib.ListN.{drop, replicate}
-use Rattle.engine.proofs.Answered.{start-ready, marks-done, marks-refused, marks-short}
 use borrow.Author.Needs.{needs}
+use Rattle.engine.proofs.Answered.{rule-ready, marks-done, marks-refused, marks-short}
 use Rattle.engine.proofs.calls.marks.Statement.{statement}
 use Rattle.engine.proofs.calls.marks.Tie as tie
 
 pub marks-spec : {M : Type 1} → statement M
 marks-spec = tie.close (tie.spec
     (λ c κs. search needs)
-    (λ c. search needs)
-    (λ c κs. search needs)
-    (λ c. let s = c .before .before .before .before .before .before .before .before in marks-short (now (s .args .rule)) (now (s .args .pool)) _ (c .before .before .before .before .check-both .ensures) _ (c .before .before .enum-told .given .1) (now (s .args .out)) (omega (arith, c .if1 .taken, c .before .row-count .ensures)))
-    (λ c κs. search needs)
-    (λ c κs. search needs)
-    (λ c κs. let s = c .before .before .before .before .before .before .before .before .before .before .before .before .before in start-ready (now (s .args .rule)) (now (s .args .pool)) _ (c .before .before .before .before .before .before .before .before .before .check-both .ensures) _ (c .before .before .before .before .before .before .before .enum-told .given .1) _ (c .none .ensures))
-    (λ c κs. let s = c .before .before .before .before .before .before .before .before .before .before .before .before .before .before .before in (start-ready (now (s .args .rule)) (now (s .args .pool)) _ (c .before .before .before .before .before .before .before .before .before .before .before .check-both .ensures) _ (c .before .before .before .before .before .before .before .before .before .enum-told .given .1) _ (c .before .before .none .ensures), (c .before .holds .ensures, omega (arith, c .before .before .before .before .before .clear .kept .0, c .before .before .before .before .before .before .before .if1 .left, c .before .before .before .before .before .before .before .before .row-count .ensures))))
     (λ c κs. search needs)
     (λ c. search needs)
+    (λ c κs. search needs)
+    (λ c. let s = c .before .before .before .before .before .before .before .before .before in
+    let check-rule = c .before .before .before .before .before .check-rule in
+    let then-table = c .before .before .before .before .then-table in
+    let enum-told = c .before .before .enum-told in
+    let if1 = c .if1 in
+    let row-count = c .before .row-count in
+    marks-short (now (s .args .rule)) (now (s .args .pool)) (check-rule .ensures) (then-table .ensures) (enum-told .given .1)
+    (now (s .args .out)) (omega (arith, if1 .taken, row-count .ensures)))
+    (λ c κs. search needs)
+    (λ c κs. search needs)
+    (λ c κs. let s = c .before .before .before .before .before .before .before .before .before .before .before .before .before .before in
+    let check-rule = c .before .before .before .before .before .before .before .before .before .before .check-rule in
+    let then-table = c .before .before .before .before .before .before .before .before .before .then-table in
+    let enum-told = c .before .before .before .before .before .before .before .enum-told in
+    let none = c .none in
+    rule-ready (now (s .args .rule)) (now (s .args .pool)) (check-rule .ensures) (then-table .ensures) (enum-told .given .1) (none .ensures))
+    (λ c κs. let s = c .before .before .before .before .before .before .before .before .before .before .before .before .before .before .before .before in
+    let check-rule = c .before .before .before .before .before .before .before .before .before .before .before .before .check-rule in
+    let then-table = c .before .before .before .before .before .before .before .before .before .before .before .then-table in
+    let enum-told = c .before .before .before .before .before .before .before .before .before .enum-told in
+    let none = c .before .before .none in
+    let holds = c .before .holds in
+    let clear = c .before .before .before .before .before .clear in
+    let if1 = c .before .before .before .before .before .before .before .if1 in
+    let row-count = c .before .before .before .before .before .before .before .before .row-count in (
+      rule-ready (now (s .args .rule)) (now (s .args .pool)) (check-rule .ensures) (then-table .ensures) (enum-told .given .1) (none .ensures),
+      (holds .ensures, omega (arith, clear .kept .0, if1 .left, row-count .ensures)),
+    ))
+    (λ c κs. search needs)
     (λ c. search needs)
-    (λ c. let s = c .before .before .before .before .before .before .before .before .before .before .before .before .before .before .before .before .before .before .before in marks-done (now (s .args .rule)) (now (s .args .pool)) _ (c .before .before .before .before .before .before .before .before .before .before .before .before .before .before .before .check-both .ensures) _ (c .before .before .before .before .before .before .before .before .before .before .before .before .before .enum-told .given .1) _ (c .before .before .before .before .before .before .none .ensures) _ (c .before .before .before .before .before .holds .ensures) _ (c .one-if .ensures) (now (s .args .out)) _ _ (omega (arith, c .before .before .before .before .before .before .before .before .before .before .before .if1 .left, c .before .before .before .before .before .before .before .before .before .before .before .before .row-count .ensures)) (c .before .before .before .before .before .before .before .before .before .clear .ensures ∙ ap (λ n. replicate n 0 ++ drop n (now (s .args .out))) (c .before .before .before .before .before .before .before .before .before .before .before .before .row-count .ensures)) (c .before .before .before .explain .ensures))
-    (λ c. let s = c .before .before .before .before .before .before .before in marks-refused (now (s .args .rule)) (now (s .args .pool)) _ (c .before .before .before .check-both .ensures) _ _ (c .before .answer .given .1) (now (s .args .out))))
+    (λ c. search needs)
+    (λ c. let s = c .before .before .before .before .before .before .before .before .before .before .before .before .before .before .before .before .before .before .before .before in
+    let check-rule = c .before .before .before .before .before .before .before .before .before .before .before .before .before .before .before .before .check-rule in
+    let then-table = c .before .before .before .before .before .before .before .before .before .before .before .before .before .before .before .then-table in
+    let enum-told = c .before .before .before .before .before .before .before .before .before .before .before .before .before .enum-told in
+    let none = c .before .before .before .before .before .before .none in
+    let holds = c .before .before .before .before .before .holds in
+    let one-if = c .one-if in
+    let if1 = c .before .before .before .before .before .before .before .before .before .before .before .if1 in
+    let row-count = c .before .before .before .before .before .before .before .before .before .before .before .before .row-count in
+    let clear = c .before .before .before .before .before .before .before .before .before .clear in
+    let explain = c .before .before .before .explain in
+    marks-done (now (s .args .rule)) (now (s .args .pool)) (check-rule .ensures) (then-table .ensures) (enum-told .given .1)
+    (none .ensures) (holds .ensures) (one-if .ensures) (now (s .args .out)) (omega (arith, if1 .left, row-count .ensures))
+    (clear .ensures ∙ ap (λ n. replicate n 0 ++ drop n (now (s .args .out))) (row-count .ensures)) (explain .ensures))
+    (λ c. let s = c .before .before .before .before .before .before .before .before in
+    let check-rule = c .before .before .before .before .check-rule in
+    let then-table = c .before .before .before .then-table in
+    let answer = c .before .answer in
+    marks-refused (now (s .args .rule)) (now (s .args .pool)) (check-rule .ensures) (then-table .ensures) (answer .given .1) (now (s .args .out))))

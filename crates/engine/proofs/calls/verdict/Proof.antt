@@ -1,17 +1,35 @@
 -- `engine::calls::verdict` meets its contract. Assumes nothing.
 use denote.Ref.{now}
-use Rattle.engine.proofs.Answered.{start-ready, verdict-done, verdict-refused}
 use borrow.Author.Needs.{needs}
+use Rattle.engine.proofs.Answered.{rule-ready, verdict-done, verdict-refused}
 use Rattle.engine.proofs.calls.verdict.Statement.{statement}
 use Rattle.engine.proofs.calls.verdict.Tie as tie
 
 pub verdict-spec : {M : Type 1} → statement M
 verdict-spec = tie.close (tie.spec
     (λ c κs. search needs)
-    (λ c. search needs)
-    (λ c κs. search needs)
-    (λ c κs. let s = c .before .before .before .before .before .before in start-ready (now (s .args .rule)) (now (s .args .pool)) _ (c .before .before .before .check-both .ensures) _ (c .before .enum-told .given .1) _ (c .none .ensures))
     (λ c κs. search needs)
     (λ c. search needs)
-    (λ c. let s = c .before .before .before .before .before .before .before .before in verdict-done (now (s .args .rule)) (now (s .args .pool)) _ (c .before .before .before .before .before .check-both .ensures) _ (c .before .before .before .enum-told .given .1) _ (c .before .before .none .ensures) _ (c .before .holds .ensures) _ (c .one-if .ensures))
-    (λ c. let s = c .before .before .before .before .before .before in verdict-refused (now (s .args .rule)) (now (s .args .pool)) _ (c .before .before .before .check-both .ensures) _ _ (c .before .answer .given .1)))
+    (λ c κs. search needs)
+    (λ c κs. let s = c .before .before .before .before .before .before .before in
+    let check-rule = c .before .before .before .before .check-rule in
+    let then-table = c .before .before .before .then-table in
+    let enum-told = c .before .enum-told in
+    let none = c .none in
+    rule-ready (now (s .args .rule)) (now (s .args .pool)) (check-rule .ensures) (then-table .ensures) (enum-told .given .1) (none .ensures))
+    (λ c κs. search needs)
+    (λ c. search needs)
+    (λ c. let s = c .before .before .before .before .before .before .before .before .before in
+    let check-rule = c .before .before .before .before .before .before .check-rule in
+    let then-table = c .before .before .before .before .before .then-table in
+    let enum-told = c .before .before .before .enum-told in
+    let none = c .before .before .none in
+    let holds = c .before .holds in
+    let one-if = c .one-if in
+    verdict-done (now (s .args .rule)) (now (s .args .pool)) (check-rule .ensures) (then-table .ensures) (enum-told .given .1)
+    (none .ensures) (holds .ensures) (one-if .ensures))
+    (λ c. let s = c .before .before .before .before .before .before .before in
+    let check-rule = c .before .before .before .before .check-rule in
+    let then-table = c .before .before .before .then-table in
+    let answer = c .before .answer in
+    verdict-refused (now (s .args .rule)) (now (s .args .pool)) (check-rule .ensures) (then-table .ensures) (answer .given .1)))

@@ -1,0 +1,68 @@
+-- The loop that writes a byte for each rule of a set: what is left to write is that of the rules left. Assumes nothing.
+use Prim.Native.Nat.{ℕ, suc, _+_, _-_, _*_, _≤_, _<_}
+use native.Mathlib.Numerals.{add-one}
+use native.Mathlib.Omega.{arith}
+use mathlib.Core.Path.{_≡_, refl, sym, ap, ap₂, subst, _∙_}
+use mathlib.Core.Bool.{Bool, true, false}
+use mathlib.Core.List.{List, map}
+use lib.ListN.{length, set, length-set}
+use lib.Seq.{sets}
+use Rattle.tables.specs.Words.{entryWords, rows}
+use Rattle.tables.specs.Rules.{one, acceptedRule}
+use Rattle.tables.specs.Tables.{acceptedTable}
+use Rattle.sets.specs.Sets.{entriesOf, ruleAt, rulesFrom, acceptedSet}
+use Rattle.sets.proofs.Sets.{counts-fit, each-accepted, Walked, walk-begin, walk-more, rule-inside, rules-left, none-left}
+use Rattle.logic.specs.Formulas.{Formula, formula, formulasOf}
+use Rattle.logic.specs.Verdict.{verdict, verdictBytes}
+use Rattle.engine.specs.Places.{fresh}
+use Rattle.engine.specs.Ready.{Ready, verdictAt}
+use Rattle.engine.specs.declared.bindings.Bindings.{Bindings}
+use Rattle.engine.proofs.Answered.{start-ready, start-number}
+
+pub one-small : (b : Bool) → one b ≤ 1
+one-small true = omega arith
+one-small false = omega arith
+
+module _ (rules counts pool out₀ : List ℕ) where
+  abbrev bytesFrom : ℕ → List ℕ
+  bytesFrom i = verdictBytes (map formula (rulesFrom rules counts i (length counts - i))) (rows pool)
+
+  pub record Writes (out : List ℕ) (i before : ℕ) : Type 0 where
+    pub walked : Walked rules counts i before
+    pub len : length out ≡ length out₀
+    pub rest : sets out₀ 0 (verdictBytes (formulasOf rules counts) (rows pool)) ≡ sets out i (bytesFrom i)
+
+  pub write-begin : Writes out₀ 0 0
+  write-begin =
+      let z : length counts ≡ length counts - 0 = omega arith in
+      record {
+        walked = walk-begin rules counts;
+        len = refl;
+        rest = ap (λ (k : ℕ). sets out₀ 0 (verdictBytes (map formula (rulesFrom rules counts 0 k)) (rows pool))) z;
+      }
+
+  module _ (set-ok : acceptedSet rules counts ≡ true) (pool-ok : acceptedTable pool ≡ true) {out : List ℕ} {i before : ℕ} (w : Writes out i before) (h : i < length counts) where
+    pub write-inside : entryWords * (before + entriesOf counts i) ≤ length rules
+    write-inside = rule-inside rules counts (w .walked) h (counts-fit rules counts set-ok)
+
+    module _ {rule : List ℕ} (rule-is : rule ≡ ruleAt rules counts i) {b : Bindings} (b-is : b ≡ fresh) where
+      rule-ok : acceptedRule rule ≡ true
+      rule-ok = subst (λ (r : List ℕ). acceptedRule r ≡ true) (sym rule-is) (each-accepted rules counts set-ok i h)
+
+      pub write-ready : Ready rule pool b 0
+      write-ready = start-ready rule pool rule-ok pool-ok b-is
+
+      pub write-more : {v : Bool} → v ≡ verdictAt rule pool b 0 → {n : ℕ} → n ≡ one v → {end : ℕ} → end ≡ before + entriesOf counts i → Writes (set out i n) (i + 1) end
+      write-more v-is {n} n-is end-is = record {
+        walked = walk-more rules counts (w .walked) h end-is;
+        len = length-set out i n ∙ w .len;
+        rest = w .rest
+            ∙ ap (λ (rs : List (List ℕ)). sets out i (verdictBytes (map formula rs) (rows pool))) (rules-left rules counts (w .walked) h)
+            ∙ ap₂ (λ (x j : ℕ). sets (set out i x) j (bytesFrom (i + 1))) (sym byte-is) (sym (add-one i));
+      }
+        where
+          byte-is : n ≡ one (verdict (formula (ruleAt rules counts i)) (rows pool))
+          byte-is = start-number rule pool rule-ok pool-ok b-is v-is n-is ∙ ap (λ (r : List ℕ). one (verdict (formula r) (rows pool))) rule-is
+
+  pub write-end : {out : List ℕ} {i before : ℕ} → Writes out i before → length counts ≤ i → out ≡ sets out₀ 0 (verdictBytes (formulasOf rules counts) (rows pool))
+  write-end {out} {i} w h = sym (w .rest ∙ ap (λ (rs : List (List ℕ)). sets out i (verdictBytes (map formula rs) (rows pool))) (none-left rules counts i h))

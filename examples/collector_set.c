@@ -1,0 +1,71 @@
+/* A collector: joins the parts that the switches made for a set of rules and checks all rules at once.
+ *
+ *     collector_set RULE... -- PART...
+ *
+ * RULE and PART are files; the parts stand in the order of their devices. It prints the number of rows joined
+ * and a line for each rule: true, or false and its marked rows as device/at.
+ */
+#include "files.h"
+
+#include <stdio.h>
+
+static struct set set;
+static uint32_t pool[GABZERIL_TABLE_WORDS];
+static uint32_t part[GABZERIL_TABLE_WORDS];
+static uint8_t verdicts[GABZERIL_SET_LIMIT];
+static uint8_t marks[GABZERIL_ROW_LIMIT];
+
+/* The words of the pool with these parts joined, in the order given. */
+static size_t join_parts(char **paths)
+{
+    size_t used = 0;
+    for (size_t i = 0; paths[i] != NULL; i++) {
+        size_t length = load_pool(paths[i], part);
+        used = accepted(gabzeril_join(pool, GABZERIL_TABLE_WORDS, used, part, length), paths[i]);
+    }
+    return used;
+}
+
+/* Marks are made for one rule: `rule` is where its words begin within the set's. */
+static void print_marked(const uint32_t *rule, size_t rule_length, size_t used)
+{
+    accepted(gabzeril_marks(rule, rule_length, pool, used, marks, sizeof marks), "rule or pool");
+    for (size_t i = 0; i < used / GABZERIL_ROW_WORDS; i++) {
+        const uint32_t *row = pool + GABZERIL_ROW_WORDS * i;
+        if (marks[i] == 1) {
+            printf(" %u/%u", (unsigned)row[GABZERIL_DEVICE], (unsigned)row[GABZERIL_AT]);
+        }
+    }
+}
+
+static void print_verdicts(char **paths, size_t used)
+{
+    const uint32_t *rule = set.rules;
+    for (size_t i = 0; i < set.counts_length; i++) {
+        size_t rule_length = GABZERIL_ENTRY_WORDS * (size_t)set.counts[i];
+        printf("%s: %s", paths[i], verdicts[i] == 1 ? "true" : "false");
+        if (verdicts[i] == 0) {
+            printf(", marked");
+            print_marked(rule, rule_length, used);
+        }
+        printf("\n");
+        rule += rule_length;
+    }
+}
+
+int main(int argc, char **argv)
+{
+    char **rules = argv + 1;
+    size_t count = argc < 2 ? 0 : load_set(rules, &set);
+    if (argc < 2 || rules[count] == NULL) {
+        fprintf(stderr, "usage: %s RULE... -- PART...\n", argv[0]);
+        return 2;
+    }
+    size_t used = join_parts(rules + count + 1);
+    gabzeril_answer answer = gabzeril_set_verdicts(set.rules, set.rules_length, set.counts, set.counts_length,
+                                                   pool, used, verdicts, sizeof verdicts);
+    accepted(answer, "set or pool");
+    printf("rows %zu\n", used / GABZERIL_ROW_WORDS);
+    print_verdicts(rules, used);
+    return 0;
+}

@@ -1,0 +1,84 @@
+/* What damaged files and damaged sets share. */
+#ifndef HOSTILE_H
+#define HOSTILE_H
+
+#include "gabzeril.h"
+
+#include <stdio.h>
+
+enum {
+    ROW_WORDS = GABZERIL_ROW_WORDS,
+    FILLED = 0xa5 /* every byte of an output before the call */
+};
+
+/* Random numbers. */
+
+uint64_t draw(void);
+uint32_t below(size_t limit);
+int chance(uint32_t percent);
+
+/* Memory between two pages without access. */
+
+struct area {
+    uint8_t *start;
+    size_t size;
+};
+
+struct area new_area(size_t bytes);
+
+/* So many bytes of the area, at its end or at its start. An empty run is at times NULL. */
+void *run_of(struct area area, size_t length);
+
+/* A read-only copy in the area. */
+const void *lend(struct area area, const void *bytes, size_t length);
+
+int all_filled(const uint8_t *bytes, size_t length);
+
+/* Rules. At most four quantifiers, so that no case takes long. */
+
+struct rule {
+    uint32_t entries, quantifiers;
+    uint32_t words[GABZERIL_RULE_WORDS];
+};
+
+void set_entry(struct rule *rule, uint32_t at, uint32_t kind, uint32_t a, uint32_t b, uint32_t c);
+
+/* Adds a formula that stands under `bound` quantifiers. Connectives nest at most `depth` deep. */
+void add_formula(struct rule *rule, uint32_t depth, uint32_t bound);
+
+/* A quantifier over roots around a comparison: for tables with many rows. */
+void quick_rule(struct rule *rule);
+
+/* Quantifiers around one another, as many as may be or one more. */
+void deep_rule(struct rule *rule);
+
+/* Tables. */
+
+struct table {
+    uint32_t rows;
+    uint32_t words[(GABZERIL_ROW_LIMIT + 8) * ROW_WORDS];
+};
+
+/* Rows of rising devices and places; few names and values, so that all checks are met. A row is in so many
+ * cases of a hundred the first of another device. */
+void add_rows(struct table *table, uint32_t rows, uint32_t next_device);
+
+/* About as many rows as a table may have: distinct roots, children of one root, or each under the last. */
+void add_many_rows(struct table *table);
+
+/* Begins a line about the running case, with the numbers that run it again. */
+void print_case(FILE *stream);
+
+/* Sets: hostile_sets.c. */
+
+void make_areas_of_sets(void);
+
+/* Runs the set of a case; 1 if all is as it should be. */
+int run_set(void);
+
+void print_seen_by_sets(void);
+
+/* How many answers of each call on sets no case gave. */
+unsigned long count_unseen_by_sets(void);
+
+#endif
