@@ -1,5 +1,5 @@
 -- The loop that writes a byte for each rule of a set: what is left to write is that of the rules left. Assumes nothing.
-use Prim.Native.Nat.{ℕ, suc, _+_, _-_, _*_, _≤_, _<_}
+use Prim.Native.Nat.{ℕ, _+_, _-_, _*_, _≤_, _<_}
 use native.Mathlib.Numerals.{add-one}
 use native.Mathlib.Omega.{arith}
 use mathlib.Core.Path.{_≡_, refl, sym, ap, ap₂, subst, _∙_}
@@ -12,7 +12,7 @@ use Rattle.tables.specs.Rules.{one, acceptedRule}
 use Rattle.tables.specs.Tables.{acceptedTable}
 use Rattle.sets.specs.Sets.{entriesOf, ruleAt, rulesFrom, acceptedSet}
 use Rattle.sets.proofs.Sets.{counts-fit, each-accepted, Walked, walk-begin, walk-more, rule-inside, rules-left, none-left}
-use Rattle.logic.specs.Formulas.{Formula, formula, formulasOf}
+use Rattle.logic.specs.Formulas.{formula, formulasOf}
 use Rattle.logic.specs.Verdict.{verdict, verdictBytes}
 use Rattle.engine.specs.Places.{fresh}
 use Rattle.engine.specs.Ready.{Ready, verdictAt}

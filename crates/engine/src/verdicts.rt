@@ -1,4 +1,4 @@
-// The verdicts of a set's rules.
+// A verdict as a number, and the verdicts of a set's rules as bytes.
 use super::bindings::Bindings;
 use super::evaluator::holds;
 use tables::ENTRY_WORDS;

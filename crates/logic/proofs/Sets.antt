@@ -1,15 +1,15 @@
 -- A set of one rule is that rule; a cut for a set is a cut for each rule; a set asks for what its conjunction asks for. Assumes nothing.
-use Prim.Native.Nat.{ℕ, _+_, _*_, _%_}
+use Prim.Native.Nat.{ℕ, _+_, _*_}
 use native.Mathlib.Omega.{arith}
-use mathlib.Core.Path.{_≡_, refl, sym, ap, ap₂, fun-ext, subst, _∙_}
+use mathlib.Core.Path.{_≡_, refl, sym, ap, ap₂, fun-ext, _∙_}
 use mathlib.Core.Logic.{_⊎_, inl, inr}
-use mathlib.Core.Bool.{Bool, true, false, not, cond, _&&_, _||_, and-true, or-false}
+use mathlib.Core.Bool.{Bool, true, not, cond, _&&_, _||_, and-true, or-false}
 use mathlib.Core.List.{List, [], _∷_, map, List·Memᴰ·head, List·Memᴰ·tail}
-use lib.ListN.{length, take}
+use lib.ListN.{length}
 use lib.Seq.{take-all}
 use lib.Dec.{eqb, leb}
 use borrow.Author.Tests.{eq-eqb}
-use Rattle.base.specs.Lists.{_∈_, all, any}
+use Rattle.base.specs.Lists.{_∈_, all}
 use Rattle.base.specs.Search.{sumBelow}
 use Rattle.base.proofs.Bools.{and-both}
 use Rattle.tables.specs.Answers.{andThen, unless, fitting, value, output}
@@ -21,12 +21,12 @@ use Rattle.tables.specs.declared.Answer.{Answer}
 use Rattle.tables.specs.declared.Answer.the-variants.{Done, Refused}
 use Rattle.tables.proofs.Answers.{unless-passed}
 use Rattle.tables.proofs.Whole.{whole-lines}
-use Rattle.sets.specs.Sets.{entriesBefore, ruleAt, rulesFrom, rulesOf, countsFit, shifted, ruleByRule, checkSet}
-use Rattle.logic.specs.Formulas.{Formula, joined, and, formula, formulasOf}
+use Rattle.sets.specs.Sets.{ruleAt, rulesFrom, rulesOf, countsFit, shifted, ruleByRule, checkSet}
+use Rattle.logic.specs.Formulas.{Formula, formula, formulasOf}
 use Rattle.logic.specs.Verdict.{holds, verdict, verdictAnswer, setVerdictsAnswer, setVerdictsOut}
 use Rattle.logic.specs.Parts.{reachedIn, reached, spareIn, spare, reachedByAny, spareForEach, partBy, branchPart, fullPart, partOf, wordsOf, sendAnswer, sendOut}
-use Rattle.logic.specs.Demand.{Under, Cut}
-use Rattle.logic.specs.Sets.{ownCount, OfOne, SetOfOne, CutForEach, conjunction, AsConjunction}
+use Rattle.logic.specs.Demand.{Under}
+use Rattle.logic.specs.Sets.{ownCount, OfOne, SetOfOne, AsOneFormula, CutForEach, conjunction, AsConjunction}
 use Rattle.logic.proofs.Cuts.{cut-for}
 
 -- ---- a set of one
@@ -118,6 +118,10 @@ module _ (rule : List ℕ) (ok : whole entryWords rule ≡ true) where
 
 pub set-of-one : SetOfOne
 set-of-one = of-one
+
+pub as-one-formula : AsOneFormula
+unfolding reachedByAny spareForEach
+as-one-formula F D = record { reached-is = fun-ext (λ r. or-false (reached F D r)); spare-is = fun-ext (λ r. and-true (spare F D r)) }
 
 -- ---- cuts
 pub cut-for-each : CutForEach

@@ -136,7 +136,8 @@ pub record PartIsCut (rules counts table : List ℕ) (mode : ℕ) (out : List �
   pub writes : isDone (setPartAnswer rules counts table mode (length out)) ≡ true
       → partRows rules counts table mode out ≡ wordsOf (partOf (formulasOf rules counts) mode (rows table))
 
--- demand 3 is a single claim about the list with all its cuts; for one rule it is that of the set of one (`OfOne` in specs/Sets)
+-- demand 3 is a single claim about the list with all its cuts; for one rule it is that of the set of one (`OfOne`, `OneFormula` in
+-- specs/Sets)
 pub record Claim (rules counts : List ℕ) (ds : List Device) : Type 0 where
   -- no joining of the parts is refused except with 17
   pub only-short : (a : Answer) → a ∈ answers [] ds → OnlyShort a

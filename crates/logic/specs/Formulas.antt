@@ -1,4 +1,4 @@
--- 01, Tables: the formula that a rule's entries stand for. Assumes nothing.
+-- 01, Tables: the formula that a rule's entries stand for; 02, wish 1, those of a set's rules. Assumes nothing.
 use Prim.Native.Nat.{ℕ, zero, suc, _-_}
 use mathlib.Core.List.{List, [], _∷_, map}
 use lib.ListN.{getD}

@@ -59,11 +59,11 @@ unfoldable pub spare : Formula → List Row → Row → Bool
 spare F D r = spareIn F D 0 noChains r
 
 -- ---- for a set of rules (02, wish 1); one rule is a set of one
--- a row is reached if any rule reaches it
+-- a row is reached by the set if any rule reaches it
 unfoldable pub reachedByAny : List Formula → List Row → Row → Bool
 reachedByAny Fs D r = any (λ F. reached F D r) Fs
 
--- and spare if it is spare for each rule in it
+-- a row is spare for the set if it is spare for each rule in it
 unfoldable pub spareForEach : List Formula → List Row → Row → Bool
 spareForEach Fs D r = all (λ F. spare F D r) Fs
 

@@ -1,13 +1,13 @@
 -- The loop over a set's rules for one row: what is left to ask is that of the rules left. Assumes nothing.
 use Prim.Native.Nat.{ℕ, _+_, _-_, _*_, _<_, _≤_}
-use mathlib.Core.Path.{_≡_, refl, sym, ap, ap₂, subst, _∙_}
+use mathlib.Core.Path.{_≡_, refl, sym, ap, subst, _∙_}
 use mathlib.Core.Bool.{Bool, true, false, not, cond, _&&_, _||_}
 use mathlib.Core.List.{List, [], _∷_, map}
 use native.Mathlib.Omega.{arith}
 use lib.ListN.{length}
 use lib.Dec.{eqb}
 use Rattle.base.specs.Lists.{all, any}
-use Rattle.tables.specs.Words.{entryWords, rowAt, rowCount, rows}
+use Rattle.tables.specs.Words.{entryWords, rowAt, rows}
 use Rattle.tables.specs.Rules.{aroundFrom, acceptedRule}
 use Rattle.tables.specs.declared.Row.{Row}
 use Rattle.tables.proofs.AcceptedRule.{some-entry}

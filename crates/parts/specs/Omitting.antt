@@ -1,6 +1,6 @@
 -- What the private functions of the device's side require and promise of rows that are left out by themselves. A reader of the public
 -- contract need not believe it. Assumes nothing.
-use Prim.Native.Nat.{ℕ, _<_, _≤_}
+use Prim.Native.Nat.{ℕ, _<_}
 use mathlib.Core.Path.{_≡_}
 use mathlib.Core.Bool.{Bool, true, false, not, cond}
 use mathlib.Core.List.{List}

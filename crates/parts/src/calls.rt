@@ -35,7 +35,7 @@ fn first_other(table: &[u32]) -> usize
     n
 }
 
-// The refusals up to 14: those of the rule or the set, then those of the table.
+// All refusals but 17: those that the checks of the rules have answered, then those of the table and of the mode.
 fn check_request(checked: Answer, table: &[u32], mode: u32) -> Answer
     ensures { λ r. ⌜ r ≡ requestAnswer checked (now (table .entry)) mode (Answer.Done 0) ⌝ }
 {
@@ -62,13 +62,13 @@ fn check_request(checked: Answer, table: &[u32], mode: u32) -> Answer
     Answer::Done(0)
 }
 
-// Which rows a device sends into an output of that many words: a byte for each row, and the answer.
+// Which rows a device sends: a byte for each row, and the answer.
 struct Choice {
     answer: Answer,
     row: [u8; ROW_LIMIT],
 }
 
-// `checked` is what the checks of the rules have answered.
+// Which rows it sends into an output of `room` words; `checked` is what the checks of the rules have answered.
 fn choose(
     checked: Answer,
     rules: &[u32],
@@ -104,7 +104,7 @@ fn choose(
     }
 }
 
-// The same, with the words of the rows sent at the start of `out`.
+// Chooses them and writes their words at the start of `out`.
 fn send_chosen(
     checked: Answer,
     rules: &[u32],

@@ -183,6 +183,8 @@ right (setJudged rules counts pool bytes) =
     && sameWords (map (λ rule. one (published rule pool)) (rulesOf rules counts)) bytes
 right (setSends rules counts mode table sent) =
     sameAnswer (setPartAnswer rules counts table mode (length sent)) (Done (rowCount sent))
+    && sameAnswer (setPartAnswer rules counts table mode (length sent - 1)) (cond (eqb (length sent) 0) (Done 0) (Refused 17 0))
+    && sameAnswer (setPartAnswer rules counts table 4 0) (Refused 13 0)
     && sameWords (setPartOut rules counts table mode (buffer (length table))) (sent ++ drop (length sent) (buffer (length table)))
 right (differs rule pool answer truth onRows) =
     acceptedRule rule && sameAnswer (checkTable pool) answer
@@ -275,6 +277,7 @@ cases =
     -- 1 has the place of its rule's first entry, also where the rule has none
     ∷ setChecked [] (replicate 32 0) (Refused 1 0)
     ∷ setChecked (everyIs 1) (2 ∷ 0 ∷ []) (Refused 1 2)
+    ∷ setChecked (everyIs 1 ++ replicate 516 0) (2 ∷ 129 ∷ []) (Refused 1 2)
     -- places are counted from the first entry of the set, a child's number from its own rule's
     ∷ setChecked (ruleA ++ nested 0 7) (6 ∷ 8 ∷ []) (Refused 6 12)
     ∷ setChecked (everyIs 1 ++ entry 5 3 0 1 ++ entry 7 0 1 1) (2 ∷ 2 ∷ []) (Refused 4 2)

@@ -121,7 +121,7 @@ module _ (rules counts : List ℕ) where
     pub few-rules : length counts ≤ setLimit
     few-rules = number-few number-fits
 
-    words-are : length rules ≡ entryWords * entriesBefore counts (length counts)
+    pub words-are : length rules ≡ entryWords * entriesBefore counts (length counts)
     words-are =
         let sum = eqb-true (entriesBefore counts (length counts)) (entryCount rules) (and-right (whole entryWords rules) _ entries-fit) in
         let left = eqb-true (length rules % entryWords) 0 (and-left (whole entryWords rules) _ entries-fit) in

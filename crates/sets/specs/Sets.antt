@@ -1,13 +1,15 @@
 -- 02, wish 1: a set is up to 32 rules laid end to end, with a list of their entry counts. Assumes nothing.
-use Prim.Native.Nat.{ℕ, zero, suc, _+_, _*_}
-use mathlib.Core.Bool.{Bool, _&&_}
+use Prim.Native.Nat.{ℕ, zero, suc, _+_, _*_, _<_}
+use mathlib.Core.Path.{_≡_}
+use mathlib.Core.Bool.{Bool, true, _&&_}
 use mathlib.Core.List.{List, [], _∷_}
 use lib.ListN.{length, getD, take, drop}
 use lib.Dec.{eqb, leb}
+use Rattle.base.specs.Lists.{_∈_, concatMap}
 use Rattle.base.specs.Search.{sumBelow}
 use Rattle.tables.specs.Answers.{isDone, andThen, unless}
 use Rattle.tables.specs.Words.{whole, entryWords, entryCount}
-use Rattle.tables.specs.Rules.{checkRule}
+use Rattle.tables.specs.Rules.{checkRule, acceptedRule}
 use Rattle.tables.specs.declared.Answer.{Answer}
 use Rattle.tables.specs.declared.Answer.the-variants.{Done, Refused}
 
@@ -62,3 +64,22 @@ checkSet rules counts = unless (countsFit rules counts) 20 (ruleByRule rules cou
 -- a set is accepted if its checks find no fault
 abbrev pub acceptedSet : List ℕ → List ℕ → Bool
 acceptedSet rules counts = isDone (checkSet rules counts)
+
+-- ---- the claims
+-- where the counts fit, the rules laid end to end are the set's words, and each has as many whole entries as its count says
+pub record LaidOut (rules counts : List ℕ) : Type 0 where
+  pub end-to-end : concatMap (λ rule. rule) (rulesOf rules counts) ≡ rules
+  pub words : (i : ℕ) → i < length counts → length (ruleAt rules counts i) ≡ entryWords * entriesOf counts i
+
+abbrev pub EndToEnd : Type 0
+EndToEnd = (rules counts : List ℕ) → countsFit rules counts ≡ true → LaidOut rules counts
+
+-- a set is accepted exactly if its counts fit and each of its rules is accepted
+abbrev pub EachAccepted : List ℕ → List ℕ → Type 0
+EachAccepted rules counts = (rule : List ℕ) → rule ∈ rulesOf rules counts → acceptedRule rule ≡ true
+
+abbrev pub AcceptedByRules : Type 0
+AcceptedByRules =
+    (rules counts : List ℕ)
+    → (acceptedSet rules counts ≡ true → (countsFit rules counts ≡ true) × EachAccepted rules counts)
+    × (countsFit rules counts ≡ true → EachAccepted rules counts → acceptedSet rules counts ≡ true)

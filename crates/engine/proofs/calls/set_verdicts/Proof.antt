@@ -1,6 +1,5 @@
 -- `engine::calls::set_verdicts` meets its contract. Assumes nothing.
 use denote.Ref.{now}
-use native.Mathlib.Omega.{arith}
 use borrow.Author.Needs.{needs}
 use Rattle.engine.proofs.Answered.{verdicts-refused, set-ok, verdicts-short, verdicts-done}
 use Rattle.engine.proofs.calls.set_verdicts.Statement.{statement}

@@ -1,6 +1,6 @@
 -- `parts::calls::part_size` meets its contract. Assumes nothing.
 use denote.Ref.{now}
-use mathlib.Core.Path.{sym, _∙_}
+use mathlib.Core.Path.{_∙_}
 use borrow.Author.Needs.{needs}
 use Rattle.parts.proofs.Answered.{one-vouched, one-answer}
 use Rattle.parts.proofs.calls.part_size.Statement.{statement}

@@ -1,5 +1,4 @@
 -- `parts::keeping::kept_byte` meets its contract. Assumes nothing.
-use borrow.Author.Needs.{needs}
 use Rattle.parts.proofs.Staying.{parents-inside, parent-inside, parent-lost, stays-all, each-ready, stays-omitted, stays-kept}
 use Rattle.parts.proofs.keeping.kept_byte.Statement.{statement}
 use Rattle.parts.proofs.keeping.kept_byte.Tie as tie
