@@ -3,7 +3,7 @@
  *     collector_set RULE... -- PART...
  *
  * RULE and PART are files; the parts stand in the order of their devices. It prints the number of rows joined
- * and a line for each rule: true, or false and its marked rows as device/at.
+ * and a line for each rule: true, or false and its marked rows, if there are any, as device/at.
  */
 #include "files.h"
 
@@ -26,14 +26,17 @@ static size_t join_parts(char **paths)
     return used;
 }
 
-/* Marks are made for one rule: `rule` is where its words begin within the set's. */
+/* Marks are made for one rule: `rule` is where its words begin within the set's. A false rule may mark
+ * no row, as "for some" over no rows does; then nothing is printed. */
 static void print_marked(const uint32_t *rule, size_t rule_length, size_t used)
 {
+    const char *before = ", marked ";
     accepted(gabzeril_marks(rule, rule_length, pool, used, marks, sizeof marks), "rule or pool");
     for (size_t i = 0; i < used / GABZERIL_ROW_WORDS; i++) {
         const uint32_t *row = pool + GABZERIL_ROW_WORDS * i;
         if (marks[i] == 1) {
-            printf(" %u/%u", (unsigned)row[GABZERIL_DEVICE], (unsigned)row[GABZERIL_AT]);
+            printf("%s%u/%u", before, (unsigned)row[GABZERIL_DEVICE], (unsigned)row[GABZERIL_AT]);
+            before = " ";
         }
     }
 }
@@ -45,7 +48,6 @@ static void print_verdicts(char **paths, size_t used)
         size_t rule_length = GABZERIL_ENTRY_WORDS * (size_t)set.counts[i];
         printf("%s: %s", paths[i], verdicts[i] == 1 ? "true" : "false");
         if (verdicts[i] == 0) {
-            printf(", marked");
             print_marked(rule, rule_length, used);
         }
         printf("\n");
@@ -55,17 +57,18 @@ static void print_verdicts(char **paths, size_t used)
 
 int main(int argc, char **argv)
 {
-    char **rules = argv + 1;
-    size_t count = argc < 2 ? 0 : load_set(rules, &set);
-    if (argc < 2 || rules[count] == NULL) {
+    char **paths = argv + 1;
+    char **parts = argc < 2 ? NULL : behind_dashes(paths);
+    if (parts == NULL) {
         fprintf(stderr, "usage: %s RULE... -- PART...\n", argv[0]);
         return 2;
     }
-    size_t used = join_parts(rules + count + 1);
+    load_set(paths, &set);
+    size_t used = join_parts(parts);
     gabzeril_answer answer = gabzeril_set_verdicts(set.rules, set.rules_length, set.counts, set.counts_length,
                                                    pool, used, verdicts, sizeof verdicts);
     accepted(answer, "set or pool");
     printf("rows %zu\n", used / GABZERIL_ROW_WORDS);
-    print_verdicts(rules, used);
+    print_verdicts(paths, used);
     return 0;
 }

@@ -47,7 +47,8 @@ static void add_rule(struct set *set, const char *path)
     set->counts[set->counts_length++] = (uint32_t)(length / GABZERIL_ENTRY_WORDS);
 }
 
-/* Refusals 1 to 7 are of one rule: the place within the set becomes a rule and a place within that. */
+/* Refusals 1 to 7 are of one rule: the place within the set becomes a rule and a place within that. The
+ * counts are right, as they are made here: 20 is a set without rules. */
 static void check_set(const struct set *set, char **paths)
 {
     gabzeril_answer answer =
@@ -63,15 +64,27 @@ static void check_set(const struct set *set, char **paths)
     accepted(answer, paths[rule]);
 }
 
-size_t load_set(char **paths, struct set *set)
+static int is_dashes(const char *argument)
+{
+    return strcmp(argument, "--") == 0;
+}
+
+char **behind_dashes(char **arguments)
+{
+    while (*arguments != NULL && !is_dashes(*arguments)) {
+        arguments++;
+    }
+    return *arguments == NULL ? NULL : arguments + 1;
+}
+
+void load_set(char **paths, struct set *set)
 {
     set->rules_length = 0;
     set->counts_length = 0;
-    for (size_t i = 0; paths[i] != NULL && strcmp(paths[i], "--") != 0; i++) {
+    for (size_t i = 0; paths[i] != NULL && !is_dashes(paths[i]); i++) {
         add_rule(set, paths[i]);
     }
     check_set(set, paths);
-    return set->counts_length;
 }
 
 void save_pool(const char *path, const uint32_t *table, size_t table_length)

@@ -19,9 +19,13 @@ struct set {
 size_t load_rule(const char *path, uint32_t rule[GABZERIL_RULE_WORDS]);
 size_t load_pool(const char *path, uint32_t table[GABZERIL_TABLE_WORDS]);
 
-/* The rule files `paths[0]` and so on, up to "--" or NULL, as a set; gives their number. It ends the program
- * if one cannot be read, or the set is refused: then the rule file is named, and the place is within it. */
-size_t load_set(char **paths, struct set *set);
+/* The arguments behind the first "--"; NULL if there is none. */
+char **behind_dashes(char **arguments);
+
+/* The rule files `paths[0]` and so on, up to "--" or NULL, as a set. It ends the program if one cannot be
+ * read, if there are too many, or if the set is refused. 1 to 7 name the rule file, and the place is within it;
+ * 20, no rules, names the set, as there is no file. */
+void load_set(char **paths, struct set *set);
 
 /* Writes a table as a pool file, or to standard output if `path` is NULL. It ends the program if that fails. */
 void save_pool(const char *path, const uint32_t *table, size_t table_length);

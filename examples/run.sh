@@ -5,7 +5,8 @@
 #
 # The same with a set, six rules of samples/: each switch makes one full part for all of them, and what is
 # printed is compared with `expected-set`. Every choice of switches that send their whole tables instead must
-# give the same verdicts, and mark no row that is not marked on the whole tables.
+# give the same verdicts, and mark no row that is not marked on the whole tables. Wrong arguments must leave
+# every file as it was.
 #
 #   examples/run.sh [PROGRAMS]   the folder of the built programs; without it they are built with sanitizers
 set -eu
@@ -95,7 +96,7 @@ rules=(rules/client-or-server.txt rules/at-most-one-server.txt rules/mtu-at-most
 
 # The full part of one switch for all rules, as the file full1.txt and so on.
 send_set() { # device rule...
-    run "$programs/switch_set" "d$1.txt" "full$1.txt" "${@:2}"
+    run "$programs/switch_set" "d$1.txt" "${@:2}" -- "full$1.txt"
 }
 
 # What both programs say of a set that is refused. No part is written.
@@ -132,10 +133,51 @@ sets() {
     refused_set "${many[@]}"
     echo "32 rules"
     run "$programs/collector_set" "${many[@]:1}" -- d1.txt | sort | uniq -c
+    echo "false rules, one with marked rows and one without; then no rows at all"
+    sed '2s/1$/9/' rules/some-device.txt > rules/some-root-9.txt
+    run "$programs/collector_set" rules/some-ntp-master.txt rules/some-root-9.txt rules/some-device.txt -- d1.txt
+    run "$programs/collector_set" rules/some-ntp-master.txt rules/some-root-9.txt rules/some-device.txt --
+}
+
+# What a program says of wrong arguments, without the folder of the programs.
+misused() { # program argument...
+    said=$(run "$programs/$1" "${@:2}")
+    echo "${said//"$programs/"/}"
+}
+
+misuses() {
+    two=(rules/some-device.txt rules/some-ntp-master.txt)
+    echo "switch, the part forgotten"
+    misused switch_set d1.txt "${two[@]}"
+    misused switch_set d1.txt "${two[@]}" --
+    misused switch_set d1.txt
+    misused switch_set
+    echo "switch, the part not behind the rules"
+    misused switch_set d1.txt full1.txt "${two[@]}"
+    misused switch_set -- full1.txt d1.txt "${two[@]}"
+    echo "switch, two parts"
+    misused switch_set d1.txt "${two[@]}" -- full1.txt full2.txt
+    echo "switch, more rules behind --"
+    misused switch_set d1.txt rules/some-device.txt -- rules/some-ntp-master.txt -- full1.txt
+    echo "switch, the table forgotten"
+    misused switch_set "${two[@]}" -- full1.txt
+    echo "collector, no --"
+    misused collector_set "${two[@]}" full1.txt full2.txt
+    misused collector_set "${two[@]}"
+    misused collector_set
+}
+
+# The checksum of each file but what is found here.
+checksums() {
+    find . -type f ! -name 'found*' -exec cksum {} + | sort
 }
 
 sets > found
+checksums > found-before
+misuses >> found
+checksums > found-after
 same "sets" "$here/expected-set" found
+same "files after wrong arguments" found-before found-after
 
 # The verdicts, and the marked rows, each with its rule.
 verdicts_of() { # file

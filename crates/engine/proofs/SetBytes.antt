@@ -1,5 +1,5 @@
 -- The loop that writes a byte for each rule of a set: what is left to write is that of the rules left. Assumes nothing.
-use Prim.Native.Nat.{ℕ, _+_, _-_, _*_, _≤_, _<_}
+use Prim.Native.Nat.{ℕ, _+_, _-_, _≤_, _<_}
 use native.Mathlib.Numerals.{add-one}
 use native.Mathlib.Omega.{arith}
 use mathlib.Core.Path.{_≡_, refl, sym, ap, ap₂, subst, _∙_}
@@ -7,11 +7,11 @@ use mathlib.Core.Bool.{Bool, true, false}
 use mathlib.Core.List.{List, map}
 use lib.ListN.{length, set, length-set}
 use lib.Seq.{sets}
-use Rattle.tables.specs.Words.{entryWords, rows}
+use Rattle.tables.specs.Words.{rows}
 use Rattle.tables.specs.Rules.{one, acceptedRule}
 use Rattle.tables.specs.Tables.{acceptedTable}
 use Rattle.sets.specs.Sets.{entriesOf, ruleAt, rulesFrom, acceptedSet}
-use Rattle.sets.proofs.Sets.{counts-fit, each-accepted, Walked, walk-begin, walk-more, rule-inside, rules-left, none-left}
+use Rattle.sets.proofs.Sets.{counts-fit, each-accepted, Walked, walk-begin, walk-more, rules-left, none-left}
 use Rattle.logic.specs.Formulas.{formula, formulasOf}
 use Rattle.logic.specs.Verdict.{verdict, verdictBytes}
 use Rattle.engine.specs.Places.{fresh}
@@ -32,19 +32,16 @@ module _ (rules counts pool out₀ : List ℕ) where
     pub len : length out ≡ length out₀
     pub rest : sets out₀ 0 (verdictBytes (formulasOf rules counts) (rows pool)) ≡ sets out i (bytesFrom i)
 
-  pub write-begin : Writes out₀ 0 0
-  write-begin =
+  pub write-begin : acceptedSet rules counts ≡ true → Writes out₀ 0 0
+  write-begin set-ok =
       let z : length counts ≡ length counts - 0 = omega arith in
       record {
-        walked = walk-begin rules counts;
+        walked = walk-begin rules counts (counts-fit rules counts set-ok);
         len = refl;
         rest = ap (λ (k : ℕ). sets out₀ 0 (verdictBytes (map formula (rulesFrom rules counts 0 k)) (rows pool))) z;
       }
 
   module _ (set-ok : acceptedSet rules counts ≡ true) (pool-ok : acceptedTable pool ≡ true) {out : List ℕ} {i before : ℕ} (w : Writes out i before) (h : i < length counts) where
-    pub write-inside : entryWords * (before + entriesOf counts i) ≤ length rules
-    write-inside = rule-inside rules counts (w .walked) h (counts-fit rules counts set-ok)
-
     module _ {rule : List ℕ} (rule-is : rule ≡ ruleAt rules counts i) {b : Bindings} (b-is : b ≡ fresh) where
       rule-ok : acceptedRule rule ≡ true
       rule-ok = subst (λ (r : List ℕ). acceptedRule r ≡ true) (sym rule-is) (each-accepted rules counts set-ok i h)

@@ -1,5 +1,5 @@
 -- The loop over a set's rules for one row: what is left to ask is that of the rules left. Assumes nothing.
-use Prim.Native.Nat.{ℕ, _+_, _-_, _*_, _<_, _≤_}
+use Prim.Native.Nat.{ℕ, _+_, _-_, _<_, _≤_}
 use mathlib.Core.Path.{_≡_, refl, sym, ap, subst, _∙_}
 use mathlib.Core.Bool.{Bool, true, false, not, cond, _&&_, _||_}
 use mathlib.Core.List.{List, [], _∷_, map}
@@ -7,12 +7,12 @@ use native.Mathlib.Omega.{arith}
 use lib.ListN.{length}
 use lib.Dec.{eqb}
 use Rattle.base.specs.Lists.{all, any}
-use Rattle.tables.specs.Words.{entryWords, rowAt, rows}
+use Rattle.tables.specs.Words.{rowAt, rows}
 use Rattle.tables.specs.Rules.{aroundFrom, acceptedRule}
 use Rattle.tables.specs.declared.Row.{Row}
 use Rattle.tables.proofs.AcceptedRule.{some-entry}
 use Rattle.sets.specs.Sets.{entriesOf, ruleAt, rulesFrom}
-use Rattle.sets.proofs.Sets.{counts-fit, each-accepted, Walked, walk-begin, walk-more, rule-inside, rules-left, none-left}
+use Rattle.sets.proofs.Sets.{counts-fit, each-accepted, Walked, walk-begin, walk-more, rules-left, none-left}
 use Rattle.logic.specs.Formulas.{formula, formulasOf}
 use Rattle.logic.specs.Parts.{reached, spare, reachedByAny, spareForEach}
 use Rattle.parts.specs.Reaching.{noBinders, chainsBelow}
@@ -52,19 +52,16 @@ module _ (rules counts t parents : List ℕ) (m row : ℕ) where
     pub walked : Walked rules counts i before
     pub left : omitted m (formulasOf rules counts) (rows t) (rowAt t row) ≡ leftFrom i
 
-  pub ask-begin : Asks 0 0
-  ask-begin =
+  pub ask-begin : ReadyEach rules counts t parents row → Asks 0 0
+  ask-begin ready =
       let z : length counts ≡ length counts - 0 = omega arith in
       record {
-        walked = walk-begin rules counts;
+        walked = walk-begin rules counts (counts-fit rules counts (ready .set-accepted));
         left = omitted-by-all m (rows t) (rowAt t row) (rulesFrom rules counts 0 (length counts))
             ∙ ap (λ (k : ℕ). all (omittedBy m (rows t) (rowAt t row)) (rulesFrom rules counts 0 k)) z;
       }
 
   module _ (ready : ReadyEach rules counts t parents row) {i before : ℕ} (a : Asks i before) (h : i < length counts) where
-    pub ask-inside : entryWords * (before + entriesOf counts i) ≤ length rules
-    ask-inside = rule-inside rules counts (a .walked) h (counts-fit rules counts (ready .set-accepted))
-
     module _ {rule : List ℕ} (rule-is : rule ≡ ruleAt rules counts i) {by : Binders} (by-is : by ≡ noBinders) where
       rule-ok : acceptedRule rule ≡ true
       rule-ok = subst (λ (r : List ℕ). acceptedRule r ≡ true) (sym rule-is) (each-accepted rules counts (ready .set-accepted) i h)

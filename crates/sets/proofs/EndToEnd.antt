@@ -43,7 +43,7 @@ module _ (rules counts : List ℕ) where
     unfolding sumBelow
     laid-out = record {
       end-to-end = laid-from (length counts) 0 (omega arith);
-      words = λ i h. rule-words rules counts (record { within = omega arith; before-is = refl }) h fit;
+      words = λ i h. rule-words rules counts (record { fit = fit; within = omega arith; before-is = refl }) h;
     }
 
 pub end-to-end : EndToEnd

@@ -129,27 +129,29 @@ module _ (rules counts : List ℕ) where
 
   -- ---- a walk over the rules: i are passed, and so many entries with them
   pub record Walked (i before : ℕ) : Type 0 where
+    pub fit : countsFit rules counts ≡ true
     pub within : i ≤ length counts
     pub before-is : before ≡ entriesBefore counts i
 
-  pub walk-begin : Walked 0 0
+  pub walk-begin : countsFit rules counts ≡ true → Walked 0 0
   unfolding sumBelow
-  walk-begin = record { within = omega arith; before-is = refl }
+  walk-begin fit = record { fit = fit; within = omega arith; before-is = refl }
 
   module _ {i before : ℕ} (w : Walked i before) (h : i < length counts) where
     pub walk-more : {end : ℕ} → end ≡ before + entriesOf counts i → Walked (i + 1) end
     unfolding sumBelow
     walk-more e = record {
+      fit = w .fit;
       within = omega arith;
       before-is = e ∙ ap (λ (b : ℕ). b + entriesOf counts i) (w .before-is) ∙ ap (sumBelow (entriesOf counts)) (sym (add-one i));
     }
 
     -- the rule's words lie in the set's
-    pub rule-inside : countsFit rules counts ≡ true → entryWords * (before + entriesOf counts i) ≤ length rules
+    pub rule-inside : entryWords * (before + entriesOf counts i) ≤ length rules
     unfolding sumBelow
-    rule-inside fit =
+    rule-inside =
         let grown : sumBelow (entriesOf counts) (suc i) ≤ entriesBefore counts (length counts) = sum-grows (entriesOf counts) (suc i) (length counts) (omega arith) in
-        omega (arith, words-are fit, grown, w .before-is)
+        omega (arith, words-are (w .fit), grown, w .before-is)
 
     -- those from word to word are the rule
     pub rule-is : {end : ℕ} → end ≡ before + entriesOf counts i
@@ -159,10 +161,10 @@ module _ (rules counts : List ℕ) where
         ap₂ (λ (k b : ℕ). take k (drop (entryWords * b) rules)) n (w .before-is)
 
     -- as many as its count says
-    pub rule-words : countsFit rules counts ≡ true → length (ruleAt rules counts i) ≡ entryWords * entriesOf counts i
-    rule-words fit =
+    pub rule-words : length (ruleAt rules counts i) ≡ entryWords * entriesOf counts i
+    rule-words =
         let behind : length (drop (entryWords * entriesBefore counts i) rules) ≡ length rules - entryWords * entriesBefore counts i = length-drop (entryWords * entriesBefore counts i) rules in
-        length-take-le (entryWords * entriesOf counts i) (drop (entryWords * entriesBefore counts i) rules) (omega (arith, behind, rule-inside fit, w .before-is))
+        length-take-le (entryWords * entriesOf counts i) (drop (entryWords * entriesBefore counts i) rules) (omega (arith, behind, rule-inside, w .before-is))
 
     one-less : length counts - i ≡ suc (length counts - (i + 1))
     one-less = omega arith
@@ -183,7 +185,6 @@ module _ (rules counts : List ℕ) where
   answersFrom i = ruleByRule rules counts i (length counts - i) (Done (length counts))
 
   pub record Checked (i before : ℕ) : Type 0 where
-    pub fit : countsFit rules counts ≡ true
     pub walked : Walked i before
     pub left : checkSet rules counts ≡ answersFrom i
 
@@ -196,13 +197,9 @@ module _ (rules counts : List ℕ) where
   check-begin fit =
       let z : length counts ≡ length counts - 0 = omega arith in
       record {
-        fit = fit;
-        walked = walk-begin;
+        walked = walk-begin fit;
         left = unless-passed (countsFit rules counts) 20 _ fit ∙ ap (λ (k : ℕ). ruleByRule rules counts 0 k (Done (length counts))) z;
       }
-
-  pub check-inside : {i before : ℕ} → Checked i before → i < length counts → entryWords * (before + entriesOf counts i) ≤ length rules
-  check-inside c h = rule-inside (c .walked) h (c .fit)
 
   module _ {i before : ℕ} (c : Checked i before) (h : i < length counts) {end : ℕ} (end-is : end ≡ before + entriesOf counts i) {a : Answer}
       (a-is : a ≡ checkRule (take (entryWords * end - entryWords * before) (drop (entryWords * before) rules))) where
@@ -223,11 +220,10 @@ module _ (rules counts : List ℕ) where
       pub place-inside : entryWords * (before + p) ≤ length rules
       place-inside =
           let inside = refused-place (ruleAt rules counts i) (sym here ∙ refused) in
-          omega (arith, inside, rule-words (c .walked) h (c .fit), rule-inside (c .walked) h (c .fit))
+          omega (arith, inside, rule-words (c .walked) h, rule-inside (c .walked) h)
 
     pub check-more : {n : ℕ} → a ≡ Done n → Checked (i + 1) end
     check-more done = record {
-      fit = c .fit;
       walked = walk-more (c .walked) h end-is;
       left = next-is ∙ ap (λ (x : Answer). andThen (shifted before x) (answersFrom (i + 1))) done;
     }

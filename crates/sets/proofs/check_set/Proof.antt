@@ -6,7 +6,7 @@ use lib.ListN.{length}
 use denote.Ref.{now}
 use borrow.Author.Tests.{not-true, not-false}
 use borrow.Author.Needs.{needs}
-use Rattle.sets.proofs.Sets.{Checked, counts-fail, check-begin, check-inside, rule-refused, place-inside, check-more, check-end}
+use Rattle.sets.proofs.Sets.{rule-inside, Checked, counts-fail, check-begin, rule-refused, place-inside, check-more, check-end}
 use Rattle.sets.proofs.check_set.Statement.{statement}
 use Rattle.sets.proofs.check_set.Tie as tie
 
@@ -26,13 +26,13 @@ check-set-spec = tie.close (tie.spec
     (λ c. omega (arith, c .loop-test .taken))
     (λ c. omega (arith, c .before .loop-test .taken))
     (λ c. omega (arith, c .shared-slice-known3 .given (c .before .before .loop .i)))
-    (λ c. omega (arith, check-inside _ _ (c .before .before .loop .inv) (c .before .loop-test .taken)))
-    (λ c. omega (arith, check-inside _ _ (c .before .before .loop .inv) (c .before .loop-test .taken)))
-    (λ c. omega (arith, check-inside _ _ (c .before .before .loop .inv) (c .before .loop-test .taken)))
-    (λ c. omega (arith, check-inside _ _ (c .before .before .loop .inv) (c .before .loop-test .taken)))
+    (λ c. omega (arith, rule-inside _ _ (c .before .before .loop .inv .walked) (c .before .loop-test .taken)))
+    (λ c. omega (arith, rule-inside _ _ (c .before .before .loop .inv .walked) (c .before .loop-test .taken)))
+    (λ c. omega (arith, rule-inside _ _ (c .before .before .loop .inv .walked) (c .before .loop-test .taken)))
+    (λ c. omega (arith, rule-inside _ _ (c .before .before .loop .inv .walked) (c .before .loop-test .taken)))
     (λ c. omega arith)
-    (λ c. omega (arith, check-inside _ _ (c .before .before .loop .inv) (c .before .loop-test .taken)))
-    (λ c. omega (arith, check-inside _ _ (c .before .before .loop .inv) (c .before .loop-test .taken)))
+    (λ c. omega (arith, rule-inside _ _ (c .before .before .loop .inv .walked) (c .before .loop-test .taken)))
+    (λ c. omega (arith, rule-inside _ _ (c .before .before .loop .inv .walked) (c .before .loop-test .taken)))
     (λ c κs. search needs)
     (λ c. search needs)
     (λ c. let loop = c .before .before .before .before .before .before .before .loop in
