@@ -2,6 +2,7 @@
 
 use super::collisions::first_last_or_any;
 use super::damaged_rule::{damage_rule, damaged_rule, on_some_child, RULE_FAULTS};
+use super::rules::shift_children;
 use super::sets::Set;
 use super::vocabulary::word_of_any_class;
 use crate::checker::{ENTRY_WORDS, MOST_ENTRIES, MOST_RULES};
@@ -27,10 +28,10 @@ pub enum SetFault {
     TooManyCounts,
     OneMoreOrLess,
     AnyCount,
-    /// The counts add up modulo a power of two alone.
-    Modulo,
-    /// The same modulo 2^32.
-    ModuloWords,
+    /// The counts add up modulo one of 2^8 to 2^30 alone.
+    SumModulo8To30Bits,
+    /// The counts add up modulo 2^32 alone.
+    SumModulo32Bits,
     LeftoverWords,
     /// Whole entries too many or too few.
     OtherLength,
@@ -51,8 +52,8 @@ pub const SET_FAULTS: [(SetFault, u32); 15] = [
     (TooManyCounts, 20),
     (OneMoreOrLess, 20),
     (AnyCount, 20),
-    (Modulo, 20),
-    (ModuloWords, 20),
+    (SumModulo8To30Bits, 20),
+    (SumModulo32Bits, 20),
     (LeftoverWords, 20),
     (OtherLength, 20),
 ];
@@ -87,11 +88,11 @@ pub fn damage_set(random: &mut Random, set: &mut Set, fault: SetFault) {
             false => count.wrapping_sub(1),
         }),
         AnyCount => on_a_count(random, set, |random, _| word_of_any_class(random)),
-        Modulo => on_a_count(random, set, |random, count| {
-            // Of counts, of the words or of the bytes of so many entries.
+        SumModulo8To30Bits => on_a_count(random, set, |random, count| {
+            // 2^28 and 2^30 entries are 2^32 bytes and 2^32 words.
             count.wrapping_add(random.between(1, 3) as u32 * (1 << random.pick(&[8, 16, 28, 30, 30])))
         }),
-        ModuloWords => modulo_words(random, &mut set.counts),
+        SumModulo32Bits => sum_modulo_32_bits(random, &mut set.counts),
         LeftoverWords => leftover_words(random, &mut set.rules),
         OtherLength => other_length(random, &mut set.rules),
     }
@@ -138,14 +139,7 @@ fn child_in_another_rule(random: &mut Random, rules: &mut [Vec<u32>], place: usi
 
 fn children_of_the_set(_: &mut Random, rules: &mut [Vec<u32>], place: usize) {
     let first = (rules[..place].iter().map(Vec::len).sum::<usize>() / ENTRY_WORDS) as u32;
-    for words in rules[place].chunks_exact_mut(ENTRY_WORDS) {
-        let children = match words[0] {
-            1 | 5 | 6 => 1..2,
-            2..=4 => 1..3,
-            _ => 0..0,
-        };
-        words[children].iter_mut().for_each(|child| *child = child.saturating_add(first));
-    }
+    shift_children(&mut rules[place], first);
 }
 
 fn long_rule(random: &mut Random, rules: &mut [Vec<u32>], place: usize) {
@@ -202,7 +196,7 @@ fn on_a_count(random: &mut Random, set: &mut Set, change: fn(&mut Random, u32) -
 }
 
 /// One count is so much larger and another, below 0, so much smaller.
-fn modulo_words(random: &mut Random, counts: &mut Vec<u32>) {
+fn sum_modulo_32_bits(random: &mut Random, counts: &mut Vec<u32>) {
     if counts.len() < 2 {
         counts.insert(random.below(counts.len() + 1), 0);
     }
@@ -226,7 +220,7 @@ fn leftover_words(random: &mut Random, rules: &mut Vec<u32>) {
 }
 
 fn other_length(random: &mut Random, rules: &mut Vec<u32>) {
-    let entries = random.pick(&[1, 1, 2, 128]);
+    let entries = random.pick(&[1, 1, 2, 128, MOST_RULES * MOST_ENTRIES]);
     if random.chance(50) {
         rules.truncate(rules.len().saturating_sub(entries * ENTRY_WORDS));
     } else {

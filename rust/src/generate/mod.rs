@@ -2,6 +2,7 @@
 
 mod chains;
 mod collisions;
+mod conjunction;
 mod cost;
 mod damaged_collisions;
 mod damaged_depths;
@@ -10,6 +11,7 @@ mod damaged_rule;
 mod damaged_set;
 mod damaged_table;
 mod depths;
+mod far_sets;
 mod faults;
 mod known_table;
 mod lengths;
@@ -25,6 +27,7 @@ mod together;
 mod vocabulary;
 
 pub use collisions::{colliding_rows, two_colliding_tables};
+pub use conjunction::conjunction;
 pub use cost::{files_cost, reading_cost, set_cost, verdict_cost};
 pub use damaged_collisions::damaged_collisions;
 pub use damaged_depths::damaged_depths;
@@ -32,6 +35,7 @@ pub use damaged_file::{damaged_file, file_of_words};
 pub use damaged_rule::{any_rule, damage_rule, damaged_rule, RULE_FAULTS};
 pub use damaged_set::{damage_set, damaged_set, SetFault, SET_FAULTS};
 pub use damaged_table::{any_table, damage_table, damaged_table, TABLE_FAULTS};
+pub use far_sets::{behind_nots, far_apart};
 pub use known_table::KnownTable;
 pub use lengths::{
     lengths_around, mostly_enough, one_length_around, some_lengths_around, words_sent, words_sent_for,

@@ -2,7 +2,7 @@
 //! contract permits.
 
 use super::vocabulary::{Vocabulary, NOT_IN_POOL};
-use crate::checker::{MOST_ENTRIES, MOST_NESTED};
+use crate::checker::{ENTRY_WORDS, MOST_ENTRIES, MOST_NESTED};
 use crate::random::Random;
 
 /// How a rule is grown.
@@ -59,6 +59,18 @@ pub fn rule_of(random: &mut Random, vocabulary: &Vocabulary, shape: RuleShape) -
     tree.grow(shape.entries, 0);
     let order = tree.order();
     tree.laid_out(&order)
+}
+
+/// Makes every child so much larger, as for entries that are put before the rule.
+pub fn shift_children(rule: &mut [u32], by: u32) {
+    for words in rule.chunks_exact_mut(ENTRY_WORDS) {
+        let children = match words[0] {
+            1 | 5 | 6 => 1..2,
+            2..=4 => 1..3,
+            _ => 0..0,
+        };
+        words[children].iter_mut().for_each(|child| *child = child.saturating_add(by));
+    }
 }
 
 /// An entry whose children are nodes of the tree: they stand in words a and b.

@@ -1,6 +1,7 @@
 //! Sets of accepted rules, with the pools and devices that they speak of.
 
 use super::cost::{reading_cost, verdict_cost};
+use super::far_sets::far_apart;
 use super::pools::{pool_of, PoolShape};
 use super::rules::{rule_of, RuleShape};
 use super::together::{device_of_roots, rule_over_roots, with_empty_devices, Together};
@@ -42,10 +43,11 @@ fn rule_count(random: &mut Random) -> usize {
     }
 }
 
-/// An accepted set of any rules; at times as long as may be.
+/// An accepted set of any rules; at times far apart or as long as may be.
 pub fn set(random: &mut Random, vocabulary: &Vocabulary) -> Set {
-    if random.chance(85) {
-        return set_within(random, vocabulary, |_, _| true);
+    if random.chance(92) {
+        let set = set_within(random, vocabulary, |_, _| true);
+        return if random.chance(8) { far_apart(random, &set) } else { set };
     }
     let entries = MOST_ENTRIES - random.pick(&[0, 0, 1, 30]);
     let long = |random: &mut Random| {

@@ -3,8 +3,8 @@
 use super::*;
 use crate::answer::Answer;
 use crate::checker::{
-    accepted_rule, accepted_table, check_rule, check_set, check_table, part, rows_of, Entry, MOST_NESTED,
-    MOST_RULES, ROW_WORDS,
+    accepted_rule, accepted_table, check_rule, check_set, check_table, marks, part, rows_of, set_part, Entry,
+    ENTRY_WORDS, MOST_ENTRIES, MOST_NESTED, MOST_RULES, ROW_WORDS,
 };
 use crate::random::Random;
 
@@ -176,6 +176,81 @@ fn sets_are_accepted() {
         }
     }
     assert!(single >= 500 && largest >= 300, "{single} of one rule, {largest} of as many as may be");
+}
+
+/// They start in each span of 128 entries, and at the last entry at which a rule can.
+#[test]
+fn far_apart_the_same_rows_are_sent() {
+    let most = MOST_ENTRIES as u32;
+    let (mut spans, mut longest) = ([0; MOST_RULES], 0);
+    for seed in 0..1_000 {
+        let random = &mut Random::new(seed);
+        let (near, device) = set_and_roots(random, 5_000);
+        let far = far_apart(random, &near);
+        assert_eq!(
+            check_set(&far.rules, &far.counts),
+            Answer::Done(far.counts.len()),
+            "seed {seed}: {far:?}"
+        );
+        for mode in [2, 3] {
+            let [near, far] = [&near, &far].map(|set| part_of_set(set, &device, mode));
+            assert_eq!(near, far, "seed {seed}");
+        }
+        let start = far.counts.iter().sum::<u32>() - far.counts[far.counts.len() - 1];
+        spans[(start / most) as usize] += 1;
+        longest += (far.counts == [most; MOST_RULES]) as u32;
+    }
+    assert!(spans[1..].iter().all(|&times| times > 0), "{spans:?}");
+    assert!(longest >= 100, "only {longest} of as many entries as may be");
+}
+
+fn part_of_set(set: &Set, device: &[u32], mode: u32) -> (Answer, Vec<u32>) {
+    let mut words = vec![0; device.len()];
+    (set_part(&set.rules, &set.counts, device, mode, &mut words), words)
+}
+
+/// An even number of nots leaves the verdict and the marks.
+#[test]
+fn nots_turn_the_verdict() {
+    for seed in 0..1_000 {
+        let random = &mut Random::new(seed);
+        let (rule, pool) = rule_and_pool(random, Together { rows: 40, cost: 20_000 });
+        let nots = random.below(MOST_ENTRIES - rule.len() / ENTRY_WORDS + 1);
+        let behind = behind_nots(nots, &rule);
+        assert_eq!(
+            check_rule(&behind),
+            Answer::Done(nots + rule.len() / ENTRY_WORDS),
+            "seed {seed}: {rule:?}"
+        );
+        let [(single, marked), (turned, also_marked)] = [&rule, &behind].map(|rule| {
+            let mut bytes = vec![7; pool.len() / ROW_WORDS];
+            (marks(rule, &pool, &mut bytes), bytes)
+        });
+        match nots % 2 {
+            0 => assert_eq!((single, marked), (turned, also_marked), "seed {seed}: {nots} {rule:?}"),
+            _ => assert_ne!(single, turned, "seed {seed}: {nots} {rule:?}"),
+        }
+    }
+}
+
+/// It is accepted, and sends what the set does.
+#[test]
+fn a_conjunction_is_the_set() {
+    let mut several = 0;
+    for seed in 0..2_000 {
+        let (set, device) = set_and_roots(&mut Random::new(seed), 20_000);
+        let Some(rule) = conjunction(&set) else {
+            continue;
+        };
+        let entries = set.counts.len() - 1 + set.rules.len() / ENTRY_WORDS;
+        assert_eq!(check_rule(&rule), Answer::Done(entries), "seed {seed}: {set:?}");
+        for mode in [2, 3] {
+            let of_rule = part_of_set(&Set::of(&[&rule]), &device, mode);
+            assert_eq!(of_rule, part_of_set(&set, &device, mode), "seed {seed}: {set:?}");
+        }
+        several += (set.counts.len() > 1) as u32;
+    }
+    assert!(several >= 1_000, "only {several} of several rules");
 }
 
 /// A fault put in alone is mostly the one that is found. Any rule may be at fault.
