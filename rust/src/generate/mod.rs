@@ -43,9 +43,9 @@ pub use lengths::{
 pub use library_hash::{ats_of_hash, library_hash, place_hash, twin_hash, FACTORS, STEPS};
 pub use nested::{nested_rule, NestedRule};
 pub use pools::{pool, pool_of, PoolShape};
-pub use requests::{unknown_mode, with_another_device};
+pub use requests::{one_or_several, unknown_mode, with_another_device};
 pub use rules::{rule, rule_of, RuleShape};
-pub use sets::{set, set_and_devices, set_and_pool, set_and_roots, Set};
+pub use sets::{set, set_and_devices, set_and_devices_or_roots, set_and_pool, set_and_roots, Set};
 pub use together::{
     damaged_together, deep_rows, nested_rule_and_table, rule_and_deep_rows, rule_and_devices, rule_and_pool,
     rule_and_roots, rule_and_siblings, Together,

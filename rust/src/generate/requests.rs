@@ -14,3 +14,13 @@ pub fn with_another_device(random: &mut Random, device: &[u32]) -> Vec<u32> {
     let other = Row { device: next, at: 1, up: 0, deep: 0, name: 1, value };
     [device, &other.words()].concat()
 }
+
+/// Mostly the table of one device, at times of several.
+pub fn one_or_several(random: &mut Random, devices: &[Vec<u32>]) -> Vec<u32> {
+    let one = if devices.is_empty() { vec![] } else { devices[random.below(devices.len())].clone() };
+    match random.below(10) {
+        0..=1 => devices.concat(),
+        2 => with_another_device(random, &one),
+        _ => one,
+    }
+}

@@ -129,3 +129,16 @@ pub fn set_and_roots(random: &mut Random, cost: u64) -> (Set, Vec<u32>) {
     }
     (Set::of(&rules), table)
 }
+
+/// A set and the devices of a pool, or one device of roots alone. There is a device, at times without rows.
+pub fn set_and_devices_or_roots(random: &mut Random, limit: Together) -> (Set, Vec<Vec<u32>>) {
+    if random.chance(50) {
+        let (set, device) = set_and_roots(random, limit.cost);
+        return (set, vec![device]);
+    }
+    let (set, mut devices) = set_and_devices(random, limit);
+    if devices.is_empty() {
+        devices.push(vec![]);
+    }
+    (set, devices)
+}
