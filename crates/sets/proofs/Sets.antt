@@ -87,9 +87,6 @@ module _ (rules counts : List ℕ) where
   unfolding checkSet
   set-done f h = unless-passed (countsFit rules counts) 20 _ f ∙ all-passed (length counts) 0 _ (λ j l g. h j (omega arith))
 
-  pub accepted-done : acceptedSet rules counts ≡ true → checkSet rules counts ≡ Done (length counts)
-  accepted-done e = set-done (counts-fit e) (each-accepted e)
-
   -- ---- the list of its rules
   in-from : (k i : ℕ) {r : List ℕ} → r ∈ rulesFrom rules counts i k → (j : ℕ) × (i ≤ j) × (j < i + k) × (r ≡ ruleAt rules counts j)
   unfolding rulesFrom
@@ -109,17 +106,8 @@ module _ (rules counts : List ℕ) where
 
   -- ---- counts that fit
   module _ (fit : countsFit rules counts ≡ true) where
-    number-fits : number-ok ≡ true
-    number-fits = and-left _ entries-ok fit
-
     entries-fit : entries-ok ≡ true
     entries-fit = and-right number-ok _ fit
-
-    pub some-rule : 1 ≤ length counts
-    some-rule = leb-true 1 (length counts) (and-left _ (leb (length counts) setLimit) number-fits)
-
-    pub few-rules : length counts ≤ setLimit
-    few-rules = number-few number-fits
 
     pub words-are : length rules ≡ entryWords * entriesBefore counts (length counts)
     words-are =
