@@ -11,20 +11,8 @@
 
 static struct set set;
 static uint32_t pool[GABZERIL_TABLE_WORDS];
-static uint32_t part[GABZERIL_TABLE_WORDS];
 static uint8_t verdicts[GABZERIL_SET_LIMIT];
 static uint8_t marks[GABZERIL_ROW_LIMIT];
-
-/* The words of the pool with these parts joined, in the order given. */
-static size_t join_parts(char **paths)
-{
-    size_t used = 0;
-    for (size_t i = 0; paths[i] != NULL; i++) {
-        size_t length = load_pool(paths[i], part);
-        used = accepted(gabzeril_join(pool, GABZERIL_TABLE_WORDS, used, part, length), paths[i]);
-    }
-    return used;
-}
 
 /* Marks are made for one rule: `rule` is where its words begin within the set's. A false rule may mark
  * no row, as "for some" over no rows does; then nothing is printed. */
@@ -64,7 +52,7 @@ int main(int argc, char **argv)
         return 2;
     }
     load_set(paths, &set);
-    size_t used = join_parts(parts);
+    size_t used = load_pools(parts, (size_t)(argv + argc - parts), pool);
     gabzeril_answer answer = gabzeril_set_verdicts(set.rules, set.rules_length, set.counts, set.counts_length,
                                                    pool, used, verdicts, sizeof verdicts);
     accepted(answer, "set or pool");

@@ -4,6 +4,8 @@
 #include <stdlib.h>
 #include <string.h>
 
+int refused_status = 1;
+
 static uint8_t file[FILE_BYTES];
 
 static size_t load_file(const char *path)
@@ -11,14 +13,14 @@ static size_t load_file(const char *path)
     FILE *stream = fopen(path, "rb");
     if (stream == NULL) {
         perror(path);
-        exit(1);
+        exit(refused_status);
     }
     size_t length = fread(file, 1, sizeof file, stream);
     int whole = !ferror(stream) && fgetc(stream) == EOF;
     fclose(stream);
     if (!whole) {
         fprintf(stderr, "%s: not read, or longer than %d bytes\n", path, FILE_BYTES);
-        exit(1);
+        exit(refused_status);
     }
     return length;
 }
@@ -35,12 +37,23 @@ size_t load_pool(const char *path, uint32_t table[GABZERIL_TABLE_WORDS])
     return accepted(gabzeril_read_pool(file, length, table, GABZERIL_TABLE_WORDS), path);
 }
 
+size_t load_pools(char **paths, size_t count, uint32_t pool[GABZERIL_TABLE_WORDS])
+{
+    static uint32_t part[GABZERIL_TABLE_WORDS];
+    size_t used = 0;
+    for (size_t i = 0; i < count; i++) {
+        size_t length = load_pool(paths[i], part);
+        used = accepted(gabzeril_join(pool, GABZERIL_TABLE_WORDS, used, part, length), paths[i]);
+    }
+    return used;
+}
+
 /* Puts a rule file behind the rules that the set has. */
 static void add_rule(struct set *set, const char *path)
 {
     if (set->counts_length == GABZERIL_SET_LIMIT) {
         fprintf(stderr, "%s: a set has at most %d rules\n", path, GABZERIL_SET_LIMIT);
-        exit(1);
+        exit(refused_status);
     }
     size_t length = load_rule(path, set->rules + set->rules_length);
     set->rules_length += length;
@@ -94,7 +107,7 @@ void save_pool(const char *path, const uint32_t *table, size_t table_length)
     FILE *stream = path == NULL ? stdout : fopen(path, "wb");
     if (stream == NULL || fwrite(file, 1, length, stream) != length || fclose(stream) != 0) {
         perror(name);
-        exit(1);
+        exit(refused_status);
     }
 }
 
@@ -104,7 +117,7 @@ size_t accepted(gabzeril_answer answer, const char *subject)
         const char *text = gabzeril_refusal_text(answer.number);
         unsigned number = answer.number;
         fprintf(stderr, "%s: refused, number %u, place %zu: %s\n", subject, number, answer.place, text);
-        exit(1);
+        exit(refused_status);
     }
     return answer.value;
 }

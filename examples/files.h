@@ -15,9 +15,17 @@ struct set {
     size_t counts_length; /* the number of rules */
 };
 
+/* The status with which a program ends if a file cannot be read or something is refused: 1, unless the program
+ * sets another. */
+extern int refused_status;
+
 /* The words of a rule file and of a pool file. Each ends the program if the file cannot be read. */
 size_t load_rule(const char *path, uint32_t rule[GABZERIL_RULE_WORDS]);
 size_t load_pool(const char *path, uint32_t table[GABZERIL_TABLE_WORDS]);
+
+/* The words of so many pool files joined, in the order given. It ends the program if one cannot be read or
+ * joined. */
+size_t load_pools(char **paths, size_t count, uint32_t pool[GABZERIL_TABLE_WORDS]);
 
 /* The arguments behind the first "--"; NULL if there is none. */
 char **behind_dashes(char **arguments);

@@ -8,6 +8,10 @@
 # give the same verdicts, and mark no row that is not marked on the whole tables. Wrong arguments must leave
 # every file as it was.
 #
+# Then plans on pool.txt: what is printed is compared with `expected-plan`, and with what docs/MANUAL.md shows. Each
+# verdict that a plan foretells must be the collector's on the pool with the steps done by hand, on the whole tables
+# and on the full parts made of them.
+#
 #   examples/run.sh [PROGRAMS]   the folder of the built programs; without it they are built with sanitizers
 set -eu
 here=$(cd "$(dirname "$0")" && pwd)
@@ -202,6 +206,195 @@ for first in d1 full1; do
             marked_of found | comm -23 - whole-marked > marked-here-alone
             same "marks on $first $second $third" /dev/null marked-here-alone
         done
+    done
+done
+
+# Plans.
+
+book=(rules/client-or-server.txt rules/at-most-one-server.txt rules/mtu-at-most-9000.txt rules/some-ntp-master.txt)
+
+# A plan on pool.txt.
+try() { # plan
+    run "$programs/plan" "${book[@]}" -- pool.txt -- "$1"
+}
+
+# The same for a plan of these lines; only what is printed below the table.
+try_lines() { # line...
+    printf '%s\n' "$@" > plan.txt
+    try plan.txt | sed '1,/^$/d' | sed '1,/^$/d'
+}
+
+# A pool of as many rows as a table may have.
+full_pool() {
+    awk 'BEGIN { print "device at up deep name value"; for (i = 1; i <= 1024; i++) print 1, i, 0, 0, 1, i }'
+}
+
+refused_steps() {
+    echo "a row to set or remove that is not there"
+    try_lines 'set 4 2 1' 'set 4 9 1'
+    try_lines 'remove 5 1'
+    try_lines 'remove 3 2' 'set 3 2 1'
+    try_lines 'set 0 0 0'
+    try_lines 'remove 4294967295 4294967295'
+    echo "a row to add that is there already, the second time also with other words"
+    try_lines '' 'add 3 2 1 1 2 1'
+    try_lines '' 'add 3 2 9 9 3 9'
+    echo "numbers out of range"
+    try_lines 'set 1 4 2147483647' 'set 1 4 2147483648'
+    try_lines 'add 3 0 1 1 3 101'
+    echo "no parent; a later row is none"
+    try_lines 'add 2 4 9 1 3 101'
+    try_lines 'add 4 5 1 1 3 102' 'add 4 4 5 2 5 1500'
+    echo "wrong depth"
+    try_lines 'add 2 4 1 2 3 101'
+    echo "two roots with one value"
+    try_lines 'set 2 1 11'
+    echo "a rule turned false, then a refused step"
+    try_lines 'set 3 2 3' 'remove 3 1'
+    echo "more rows than a table may have"
+    full_pool > full.txt
+    printf 'set 1 1024 0\nremove 1 1\nadd 2 1 0 0 1 1\nadd 2 2 1 1 2 1\n' > plan.txt
+    run "$programs/plan" rules/some-device.txt -- full.txt -- plan.txt
+}
+
+accepted_plans() {
+    echo "no steps"
+    printf '# Nothing is to be done.\n\n' > plan.txt
+    try plan.txt
+    echo "one rule, the pool in several files"
+    printf 'set 4 2 1\nset 2 2 2\n' > plan.txt
+    run "$programs/plan" rules/at-most-one-server.txt -- d1.txt d2.txt d4.txt -- plan.txt
+    echo "a pool from nothing and back"
+    printf '%s\n' 'add 7 1 0 0 1 17' 'add 3 1 0 0 1 13' 'remove 7 1' 'remove 3 1' > plan.txt
+    run "$programs/plan" rules/some-device.txt rules/at-most-one-server.txt -- -- plan.txt
+    echo "tabs, carriage returns, a comment right behind a number, a long one, no end of the last line"
+    printf '\tset  1\t2 1 \r\n\r\n   # set\nset 4 2 2# server\n#%0100000d\nset 4 3 1' 0 > plan.txt
+    try plan.txt
+    echo "12,000 steps, and 32 rules"
+    awk 'BEGIN { for (i = 0; i < 12000; i++) print "set 3 2", 1 + i % 2 }' > plan.txt
+    run "$programs/plan" rules/some-device.txt -- pool.txt -- plan.txt | sed '6,12003d'
+    run "$programs/plan" "${many[@]:1}" -- pool.txt -- plan-move.txt | sed '2,31d' | cut -c 1-100 | sed 's, *$,,'
+}
+
+wrong_lines() {
+    for line in 'move 1 2 3' 'SET 1 2 3' 'sets 1 2 3' '1 1 2 3' 'set1 2 3' 'set' 'set 1 2' 'set 1 2 # 3' 'set 1 2 3 4' \
+        'remove 1' 'remove 1 2 3' 'add 4 4 1 1 3' 'add 4 4 1 1 3 101 0' 'add 4 4 1 1 3 101 set 1 2 3' 'set 1 2 -1' \
+        'set +1 2 1' 'set 1 02 1' 'set 1 2 4294967296' 'set 1 2 18446744073709551617' 'add 4 4 1 x 3 101' 'set 1 2 0x1' \
+        'set 1,2,3' 'set 1 2 3;' 'add 4 4 1 1 3.0 101' 'add 4 4 y 1 3 101' '"set" 1 2 3'; do
+        echo "$line"
+        printf 'set 4 2 2\n%s\nset 1 2\n' "$line" > plan.txt
+        try plan.txt
+    done
+    echo "a byte 0"
+    printf 'set\0 4 2 2\n' > plan.txt
+    try plan.txt
+    printf 'set 4 2 2\0\n' > plan.txt
+    try plan.txt
+    echo "a long word"
+    printf 'set 4 2 1%0100000d\n' 0 > plan.txt
+    try plan.txt
+}
+
+misused_plan() {
+    echo "plan, wrong arguments"
+    misused plan
+    misused plan "${book[@]}"
+    misused plan "${book[@]}" -- pool.txt
+    misused plan "${book[@]}" -- pool.txt plan-move.txt
+    misused plan "${book[@]}" -- pool.txt --
+    misused plan "${book[@]}" -- pool.txt -- plan-move.txt plan-remove.txt
+    misused plan "${book[@]}" -- pool.txt -- plan-move.txt --
+    echo "plan, other files"
+    misused plan "${book[@]}" -- pool.txt -- no-such-file.txt
+    misused plan "${book[@]}" -- no-such-file.txt -- plan-move.txt
+    misused plan "${book[@]}" -- pool.txt -- rules
+    misused plan "${book[@]}" -- plan-move.txt -- pool.txt
+    misused plan "${book[@]}" -- pool.txt -- pool.txt
+    misused plan -- pool.txt -- plan-move.txt
+    misused plan rules/some-device.txt rules/unbound-variable.txt -- pool.txt -- plan-move.txt
+    misused plan "${book[@]}" -- d2.txt d1.txt -- plan-move.txt
+    misused plan "${many[@]}" -- pool.txt -- plan-move.txt
+}
+
+plans() {
+    for plan in plan-move plan-move-in-order plan-remove plan-new-switch; do
+        echo "$plan"
+        try "$plan.txt"
+    done
+    refused_steps
+    accepted_plans
+    wrong_lines
+}
+
+plans > found
+checksums > found-before
+misused_plan >> found
+checksums > found-after
+same "plans" "$here/expected-plan" found
+same "files after wrong arguments of plan" found-before found-after
+
+# What the program prints in the folder above this one must stand in the manual, indented.
+shown_in_manual() { # plan
+    (cd "$here/.." && run "$programs/plan" "${book[@]/#/samples/}" -- examples/pool.txt -- "examples/$1.txt") |
+        sed -e '/^exit status/d' -e 's/./    &/' > found
+    if [[ $(< "$here/../docs/MANUAL.md") == *"$(< found)"* ]]; then
+        passed=$((passed + 1))
+    else
+        failed=$((failed + 1))
+        echo "not in the manual: what plan prints for $1"
+    fi
+}
+
+shown_in_manual plan-move
+shown_in_manual plan-remove
+
+# The verdicts in the line of a step.
+foretold() { # step
+    awk -v step="$1" '$1 == step { for (i = NF - 3; i <= NF; i++) print tolower($i) }' foretold | tr -d '*'
+}
+
+# The verdicts of the collector.
+collected() { # part...
+    run "$programs/collector_set" "${book[@]}" -- "$@" | sed -e '/^rows /d' -e 's/, marked.*//' -e 's/.*: //'
+}
+
+# state.txt with a step done by hand.
+by_hand() { # set device at value, and so on
+    case $1 in
+    set) awk -v d="$2" -v a="$3" -v v="$4" '$1 == d && $2 == a { $6 = v } { print }' state.txt ;;
+    add) sed '1!d' state.txt && { sed 1d state.txt && echo "${*:2}"; } | sort -n -k 1,1 -k 2,2 ;;
+    remove) awk -v d="$2" -v a="$3" '$1 != d || $2 != a' state.txt ;;
+    esac
+}
+
+# The foretold verdicts of a step against those on state.txt, and on the full parts of its devices.
+check_state() { # plan step
+    local device parts=()
+    foretold "$2" > found
+    collected state.txt > found-verdicts
+    same "$1 after step $2, whole" found found-verdicts
+    for device in $(sed 1d state.txt | cut -d ' ' -f 1 | sort -nu); do
+        awk -v d="$device" 'NR == 1 || $1 == d' state.txt > "d$device.txt"
+        send_set "$device" "${book[@]}"
+        parts+=("full$device.txt")
+    done
+    collected "${parts[@]}" > found-verdicts
+    same "$1 after step $2, parts" found found-verdicts
+}
+
+for plan in plan-move plan-move-in-order plan-remove plan-new-switch; do
+    try "$plan.txt" > foretold
+    steps=$(sed -n 's/^steps done \([0-9]*\) of.*/\1/p' foretold)
+    cp pool.txt state.txt
+    check_state "$plan" now
+    mapfile -t lines < <(sed -e 's/#.*//' -e '/^ *$/d' "$plan.txt" | head -n "$steps")
+    step=0
+    for line in "${lines[@]}"; do
+        read -r -a words <<< "$line"
+        by_hand "${words[@]}" > state-after.txt
+        mv state-after.txt state.txt
+        step=$((step + 1))
+        check_state "$plan" "$step"
     done
 done
 

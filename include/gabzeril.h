@@ -4,17 +4,18 @@
  *
  * Rules and tables are runs of 32-bit words that the caller lends: a rule has four words an entry
  * (kind a b c), a table six words a row (device at up deep name value). A set is rules laid end to end, and
- * a word for each that counts its entries. Lengths are in words for rules, counts and tables, in bytes for
- * files, marks and verdicts. NULL with length 0 is an empty run. The library keeps no pointer, allocates
- * nothing and has no state: calls on different buffers may run side by side. Buffers of one call must not
- * overlap.
+ * a word for each that counts its entries. A plan has seven words a step, a kind and the words of a row.
+ * Lengths are in words for rules, counts, tables and plans, in bytes for files, marks and verdicts. NULL with
+ * length 0 is an empty run. The library keeps no pointer, allocates nothing and has no state: calls on different
+ * buffers may run side by side. Buffers of one call must not overlap.
  *
  * A refused call changes no byte of any buffer. An accepted call writes its answer at the start of its
- * output and leaves what lies past it.
+ * output and leaves what lies past it. gabzeril_try is the exception: stopped at a step, it names the refusal and
+ * keeps what the steps before gave; and the words of its table past the answer may be changed.
  *
  * Stack on the largest inputs of the tests, in KiB: gabzeril_verdict 34, gabzeril_marks 43, gabzeril_part 44,
- * gabzeril_set_verdicts 34, gabzeril_set_part 44, gabzeril_check_files 60, gabzeril_report 70, every other call
- * below 9. The tests run each in a thread of 128 KiB; that is no promise.
+ * gabzeril_set_verdicts 34, gabzeril_set_part 44, gabzeril_try 58, gabzeril_check_files 60, gabzeril_report 70,
+ * every other call below 9. The tests run each in a thread of 128 KiB; that is no promise.
  */
 #ifndef GABZERIL_H
 #define GABZERIL_H
@@ -27,12 +28,13 @@ extern "C" {
 #endif
 
 /* The Makefile reads the version from this line. */
-#define GABZERIL_VERSION "0.4.0"
+#define GABZERIL_VERSION "0.5.0"
 
 /* Limits. */
 
 #define GABZERIL_ENTRY_WORDS 4   /* of an entry */
 #define GABZERIL_ROW_WORDS 6     /* of a row */
+#define GABZERIL_STEP_WORDS 7    /* of a step: its kind, then a row */
 #define GABZERIL_ENTRY_LIMIT 128 /* a rule has 1 to so many entries */
 #define GABZERIL_ROW_LIMIT 1024  /* a table has 0 to so many rows */
 #define GABZERIL_NESTING_LIMIT 6 /* so many quantifiers stand around one another at most */
@@ -42,7 +44,8 @@ extern "C" {
 #define GABZERIL_VALUE_LIMIT 2147483647 /* values and constants are 0 to this */
 
 /* Buffers that are never too short. A part has at most the words of the device's table, marks have a byte
- * for each row of the pool, verdicts and counts of a set have at most GABZERIL_SET_LIMIT. */
+ * for each row of the pool, verdicts and counts of a set have at most GABZERIL_SET_LIMIT, verdicts of a trial as
+ * many for each step. */
 
 #define GABZERIL_RULE_WORDS (GABZERIL_ENTRY_LIMIT * GABZERIL_ENTRY_WORDS) /* any rule */
 #define GABZERIL_SET_WORDS (GABZERIL_SET_LIMIT * GABZERIL_RULE_WORDS)     /* the rules of any set */
@@ -87,7 +90,10 @@ enum gabzeril_kind {
 /* What a device sends. */
 enum gabzeril_mode { GABZERIL_ALL = 1, GABZERIL_BRANCH = 2, GABZERIL_FULL = 3 };
 
-/* The numbers of the refusals. 15 and 21 to 25 are not used. A table is tested for 8, 9, 10, 11, 26 and 12, in
+/* The kinds of step. */
+enum gabzeril_step { GABZERIL_SET = 1, GABZERIL_ADD = 2, GABZERIL_REMOVE = 3 };
+
+/* The numbers of the refusals. 15, 21 and 22 are not used. A table is tested for 8, 9, 10, 11, 26 and 12, in
  * this order; these are called "8 to 12 with 26" below. */
 enum gabzeril_refusal {
     GABZERIL_ACCEPTED = 0,
@@ -110,6 +116,9 @@ enum gabzeril_refusal {
     GABZERIL_REFUSED_FIRST_LINE = 18,
     GABZERIL_REFUSED_LINE = 19,
     GABZERIL_REFUSED_COUNTS = 20,
+    GABZERIL_REFUSED_STEP = 23,
+    GABZERIL_REFUSED_ABSENT = 24,
+    GABZERIL_REFUSED_REMOVAL = 25,
     GABZERIL_REFUSED_DEPTH = 26
 };
 
@@ -140,9 +149,9 @@ static inline const char *gabzeril_refusal_text(uint32_t number)
         /* 20 */ "the counts are none, too many or do not add up to the entries",
         /* 21 */ "not used",
         /* 22 */ "not used",
-        /* 23 */ "not used",
-        /* 24 */ "not used",
-        /* 25 */ "not used",
+        /* 23 */ "unknown kind of step, or the last step lacks words",
+        /* 24 */ "the row to set or remove is not there",
+        /* 25 */ "the row to remove has rows under it",
         /* 26 */ "deep is not 0 at a root, or not one more than the parent's",
     };
     return number < sizeof texts / sizeof texts[0] ? texts[number] : "unknown number";
@@ -154,6 +163,14 @@ typedef struct gabzeril_answer {
     size_t place;    /* where the fault is: entries and rows from 0, lines from 1; 0 for the rest */
     size_t value;    /* what an accepted call answers; 0 in a refusal */
 } gabzeril_answer;
+
+/* What gabzeril_try answers. */
+typedef struct gabzeril_trial {
+    uint32_t number; /* 0: every step is done; else the number of the refusal */
+    size_t place;    /* the refused step, from 0; of a refusal before the first step its own place; else 0 */
+    size_t steps;    /* how many steps are done */
+    size_t rows;     /* rows of the working table */
+} gabzeril_trial;
 
 /* A run of words within a table. */
 typedef struct gabzeril_span {
@@ -249,6 +266,44 @@ gabzeril_answer gabzeril_set_part(const uint32_t *rules, size_t rules_length,
                                   const uint32_t *counts, size_t counts_length,
                                   const uint32_t *table, size_t table_length, uint32_t mode,
                                   uint32_t *part, size_t part_length);
+
+/* Trying a change. `steps` is the plan: GABZERIL_STEP_WORDS words for each step, its kind and then the words of a
+ * row in the order of the columns. There is no limit to the number of steps.
+ *
+ *     GABZERIL_SET      the row of that device and at gets that value; up, deep and name are not looked at
+ *     GABZERIL_ADD      the row is put in its place by device and at; all its words count
+ *     GABZERIL_REMOVE   the row of that device and at is taken out; the other words are not looked at
+ *
+ * The pool is copied to `table`, the working table, which the steps change; `pool` itself stays as it is. After
+ * each step the verdict of each rule on the working table is written behind those of the step before, as
+ * gabzeril_set_verdicts would give it: byte i + k * counts_length is rule i after step k, both from 0. There are
+ * none for the given pool. A plan without steps is accepted: `table` is then the pool, and there are no verdicts.
+ *
+ * Before the first step: 20 and 1 to 7, with the places of gabzeril_check_set; 8 to 12 with 26 of the pool, at
+ * its row; 17, place 0, if `table` is shorter than the pool. Then no buffer is changed, and steps and rows are 0.
+ *
+ * Of a step, in this order; the place is always the step's number from 0:
+ *
+ *     23               its kind is unknown, or fewer than its seven words are there, whatever its kind needs
+ *     24               the row to set or remove is not there
+ *     25               the row to remove has rows under it
+ *     8 to 12 with 26  of the table that the step would leave; adding a row that is there already is 10
+ *     17               `table` is too short for that table, or `verdicts` for the bytes up to this step
+ *
+ * The first refused step ends the trial, and nothing of it is done. Whether or not there is one, the first
+ * rows * GABZERIL_ROW_WORDS words of `table` are the table after the steps that are done, and the first
+ * steps * counts_length bytes of `verdicts` are their verdicts; the words of `table` past these may be anything,
+ * the bytes of `verdicts` past these are as they came. To have the table after an earlier step, try fewer steps.
+ *
+ * Number and place of a refusal before the first step can be those of a refused step 0. With a pool that has
+ * words, it was before the first step if steps and rows are 0; with one that has none, if the number is 20 or 1
+ * to 7. */
+gabzeril_trial gabzeril_try(const uint32_t *rules, size_t rules_length,
+                            const uint32_t *counts, size_t counts_length,
+                            const uint32_t *pool, size_t pool_length,
+                            const uint32_t *steps, size_t steps_length,
+                            uint32_t *table, size_t table_length,
+                            uint8_t *verdicts, size_t verdicts_length);
 
 /* The verdict of a rule file on a pool file: 0 false, 1 true, or 100 plus the refusal. Refusals in the
  * order: rule file (18, 19), rule (1 to 7), pool file (18, 19), pool (8 to 12 with 26); a file with too

@@ -1,10 +1,10 @@
 /* Damaged rule and pool files through gabzeril_check_files and gabzeril_report; damaged sets of rules, in
- * hostile_sets.c, through the three calls on sets.
+ * hostile_sets.c, through the three calls on sets; damaged plans, in hostile_trial.c, through gabzeril_try.
  *
  *     hostile [CASES [SEED [FIRST]]]
  *
  * Case number n from FIRST on depends on SEED and n alone, so that one case can be run again. It is two files
- * and, if n is even, a set.
+ * and, if n is even, a set, else a plan.
  *
  * A sanitizer sees only code that was compiled with it, and the library's archive is not. So every buffer
  * lies against a page without access, at its end or at its start, and inputs are on pages that are read-only
@@ -111,6 +111,15 @@ const void *lend(struct area area, const void *bytes, size_t length)
         memcpy(run, bytes, length);
     }
     set_access(area, PROT_READ);
+    return run;
+}
+
+void *output(struct area area, size_t bytes)
+{
+    void *run = run_of(area, bytes);
+    if (bytes > 0) {
+        memset(run, FILLED, bytes);
+    }
     return run;
 }
 
@@ -493,6 +502,15 @@ void print_case(FILE *stream)
     fprintf(stream, "seed %llu, case %lu: ", (unsigned long long)case_seed, case_number);
 }
 
+int agrees(int good, const char *what)
+{
+    if (!good) {
+        print_case(stdout);
+        printf("%s\n", what);
+    }
+    return good;
+}
+
 static unsigned long seen[127];
 
 /* Runs the files of a case; 1 if all is as it should be. */
@@ -524,7 +542,7 @@ static int run_case(uint64_t seed, unsigned long number)
     random_state = (seed << 32) + number;
     int good_files = run_files();
     random_state = ~random_state;
-    return (number % 2 == 1 || run_set()) && good_files;
+    return (number % 2 == 0 ? run_set() : run_plan()) && good_files;
 }
 
 /* The harness itself. */
@@ -575,6 +593,7 @@ static void make_areas(void)
     rule_words_area = new_area(RULE_WORDS * sizeof(uint32_t));
     pool_words_area = new_area(POOL_WORDS * sizeof(uint32_t));
     make_areas_of_sets();
+    make_areas_of_plans();
 }
 
 static void print_seen(void)
@@ -623,8 +642,9 @@ int main(int argc, char **argv)
     }
     print_seen();
     print_seen_by_sets();
+    print_seen_by_plans();
     if (cases >= MANY_CASES) {
-        failed += count_unseen() + count_unseen_by_sets();
+        failed += count_unseen() + count_unseen_by_sets() + count_unseen_by_plans();
     }
     printf("hostile: %lu passed, %lu failed\n", passed, failed);
     return failed != 0 || passed == 0;

@@ -1,4 +1,4 @@
-/* What damaged files and damaged sets share. */
+/* What damaged files, damaged sets and damaged plans share. */
 #ifndef HOSTILE_H
 #define HOSTILE_H
 
@@ -31,6 +31,9 @@ void *run_of(struct area area, size_t length);
 
 /* A read-only copy in the area. */
 const void *lend(struct area area, const void *bytes, size_t length);
+
+/* An output with every byte filled. */
+void *output(struct area area, size_t bytes);
 
 int all_filled(const uint8_t *bytes, size_t length);
 
@@ -69,9 +72,24 @@ void add_many_rows(struct table *table);
 /* Begins a line about the running case, with the numbers that run it again. */
 void print_case(FILE *stream);
 
+/* Prints what is wrong with the running case unless it is good. */
+int agrees(int good, const char *what);
+
 /* Sets: hostile_sets.c. */
 
 void make_areas_of_sets(void);
+
+/* A word that is often just in or out of a range. */
+uint32_t odd_number(void);
+
+/* The set and the table of a case, as read-only copies. */
+struct lent {
+    const uint32_t *rules, *counts, *pool;
+    size_t rules_length, counts_length, pool_length;
+};
+
+/* Makes a set and a table; in so many cases of a hundred they are damaged. */
+struct lent lend_set(uint32_t damaged);
 
 /* Runs the set of a case; 1 if all is as it should be. */
 int run_set(void);
@@ -80,5 +98,17 @@ void print_seen_by_sets(void);
 
 /* How many answers of each call on sets no case gave. */
 unsigned long count_unseen_by_sets(void);
+
+/* Plans: hostile_trial.c. */
+
+void make_areas_of_plans(void);
+
+/* Runs the plan of a case; 1 if all is as it should be. */
+int run_plan(void);
+
+void print_seen_by_plans(void);
+
+/* How many answers of the call on plans no case gave. */
+unsigned long count_unseen_by_plans(void);
 
 #endif

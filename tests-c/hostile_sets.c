@@ -97,7 +97,7 @@ static void make_set(void)
 
 /* Damage. */
 
-static uint32_t odd_number(void)
+uint32_t odd_number(void)
 {
     static const uint32_t numbers[] = {0, 1, 2, 3, 4, 5, 6, 7, 8, 9, 10, 127, 128, 129, 65535, 65536, 1u << 30,
                                        (1u << 30) + 1, (1u << 31) - 1, 1u << 31, 3u << 30, UINT32_MAX};
@@ -320,16 +320,6 @@ static gabzeril_answer expected_part(uint32_t mode, size_t rows)
         }
     }
     return accepted(rows);
-}
-
-/* An output with every byte filled. */
-static void *output(struct area area, size_t bytes)
-{
-    void *run = run_of(area, bytes);
-    if (bytes > 0) {
-        memset(run, FILLED, bytes);
-    }
-    return run;
 }
 
 /* gabzeril_set_verdicts with as much room as there may be at most. */
@@ -561,22 +551,21 @@ static int joined_parts_agree(void)
 
 /* One case. */
 
-static int agrees(int good, const char *what)
+struct lent lend_set(uint32_t damaged)
 {
-    if (!good) {
-        print_case(stdout);
-        printf("%s\n", what);
+    make_set();
+    if (chance(damaged)) {
+        damage_set();
     }
-    return good;
+    rules = lend(rules_area, made.words, made.length * sizeof *rules);
+    counts = lend(counts_area, made.counts, made.counts_length * sizeof *counts);
+    pool = lend(table_area, table.words, table_length * sizeof *pool);
+    return (struct lent){rules, counts, pool, made.length, made.counts_length, table_length};
 }
 
 int run_set(void)
 {
-    make_set();
-    damage_set();
-    rules = lend(rules_area, made.words, made.length * sizeof *rules);
-    counts = lend(counts_area, made.counts, made.counts_length * sizeof *counts);
-    pool = lend(table_area, table.words, table_length * sizeof *pool);
+    lend_set(100);
     return agrees(check_agrees(), "check of a set") && agrees(verdicts_agree(), "verdicts of a set") &&
            agrees(part_agrees(), "part of a set") && agrees(joined_parts_agree(), "joined parts of a set");
 }

@@ -37,7 +37,7 @@ next-answer {T = T} h t-is = t-is ∙ ap (λ (a : Answer). andThen a T) (sym h)
 pub refused-answer : {r : Answer} (T : Answer) {k p : ℕ} → r ≡ Refused k p → Refused k p ≡ andThen r T
 refused-answer T h = ap (λ (a : Answer). andThen a T) (sym h)
 
-then-assoc : (R T X : Answer) → andThen (andThen R T) X ≡ andThen R (andThen T X)
+pub then-assoc : (R T X : Answer) → andThen (andThen R T) X ≡ andThen R (andThen T X)
 then-assoc (Done n) T X = refl
 then-assoc (Refused k p) T X = refl
 

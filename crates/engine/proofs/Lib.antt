@@ -8,4 +8,9 @@ pub mod Marking
 pub mod Explained
 pub mod Answered
 pub mod SetBytes
+pub mod Ways
+pub mod Missing
+pub mod TouchedRules
+pub mod Stepping
+pub mod Running
 pub mod Settled

@@ -2,3 +2,5 @@ pub mod Places
 pub mod Ready
 pub mod Marked
 pub mod Settling
+pub mod Touching
+pub mod Trying

@@ -5,6 +5,7 @@ use super::reasons::explain;
 use super::verdicts::one_if;
 use super::verdicts::write_verdicts;
 use super::words::row_count;
+use sets::SET_LIMIT;
 use sets::check_set;
 use tables::Answer;
 use tables::check_rule;
@@ -19,7 +20,7 @@ ghost use Rattle.logic.specs.Verdict.{verdictAnswer, setVerdictsAnswer, setVerd
 ghost use Rattle.logic.specs.Marks.{marksAnswer, marksOut};
 
 // The answer of a rule's or a set's checks, then that of a table's.
-fn then_table(checked: Answer, pool: &[u32]) -> Answer
+pub(crate) fn then_table(checked: Answer, pool: &[u32]) -> Answer
     ensures { λ r. ⌜ r ≡ andThen checked (checkTable (now (pool .entry))) ⌝ }
 {
     match checked {
@@ -90,7 +91,7 @@ pub fn set_verdicts(rules: &[u32], counts: &[u32], pool: &[u32], out: &mut [u8])
                     place: 0,
                 };
             }
-            write_verdicts(rules, counts, pool, out);
+            write_verdicts(rules, counts, pool, &[1; SET_LIMIT], out);
             Answer::Done(counts.len())
         }
         Answer::Refused { number, place } => Answer::Refused { number, place },

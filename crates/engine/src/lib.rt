@@ -7,6 +7,8 @@ mod connectives;
 mod evaluator;
 mod ranges;
 mod reasons;
+mod touching;
+mod trying;
 mod verdicts;
 mod words;
 
@@ -15,3 +17,4 @@ pub use calls::marks;
 pub use calls::set_verdicts;
 pub use calls::verdict;
 pub use comparisons::compare_values;
+pub use trying::try_plan;

@@ -1,4 +1,5 @@
 // The C interface: include/gabzeril.h says each function's promise in plain words.
+use plans::Trial;
 use tables::Answer;
 ghost use mathlib.Core.Path.{_≡_};
 ghost use lib.ListN.{length};
@@ -10,6 +11,7 @@ ghost use Rattle.tables.specs.Files.{readRule, readRuleOut, readPool, readPoolO
 ghost use Rattle.logic.specs.Verdict.{verdictAnswer, setVerdictsAnswer, setVerdictsOut};
 ghost use Rattle.logic.specs.Marks.{marksAnswer, marksOut};
 ghost use Rattle.logic.specs.Parts.{partAnswer, partOut, setPartAnswer, setPartOut};
+ghost use Rattle.logic.specs.Trial.{beginAnswer, trialRun, trialOf, verdictsLeft, TableLeft};
 ghost use Rattle.checker.specs.Files.{filesAnswer, returned};
 ghost use Rattle.checker.specs.Report.{reportLength, reportOut};
 ghost use Rattle.entry.specs.Interface.{answered, spanned};
@@ -164,6 +166,22 @@ pub extern "C" fn gabzeril_set_part(
     ensures words { λ r. ⌜ now (part .exit) ≡ setPartOut (now (rules .entry)) (now (counts .entry)) (now (table .entry)) mode (now (part .entry)) ⌝ }
 {
     c_answer(parts::set_part(rules, counts, table, mode, part))
+}
+
+#[no_mangle]
+pub extern "C" fn gabzeril_try(
+    rules: &[u32],
+    counts: &[u32],
+    pool: &[u32],
+    steps: &[u32],
+    table: &mut [u32],
+    verdicts: &mut [u8],
+) -> Trial
+    ensures trial { λ r. ⌜ r ≡ trialOf (trialRun (now (rules .entry)) (now (counts .entry)) (now (pool .entry)) (now (steps .entry)) (length (now (table .entry))) (length (now (verdicts .entry)))) ⌝ }
+    ensures table { λ _. ⌜ TableLeft (beginAnswer (now (rules .entry)) (now (counts .entry)) (now (pool .entry)) (length (now (table .entry)))) (trialRun (now (rules .entry)) (now (counts .entry)) (now (pool .entry)) (now (steps .entry)) (length (now (table .entry))) (length (now (verdicts .entry)))) (now (table .entry)) (now (table .exit)) ⌝ }
+    ensures verdicts { λ _. ⌜ now (verdicts .exit) ≡ verdictsLeft (trialRun (now (rules .entry)) (now (counts .entry)) (now (pool .entry)) (now (steps .entry)) (length (now (table .entry))) (length (now (verdicts .entry)))) (now (verdicts .entry)) ⌝ }
+{
+    engine::try_plan(rules, counts, pool, steps, table, verdicts)
 }
 
 #[no_mangle]

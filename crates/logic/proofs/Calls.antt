@@ -18,7 +18,7 @@ use Rattle.tables.specs.Tables.{checkTable, acceptedTable}
 use Rattle.tables.specs.declared.Row.{Row}
 use Rattle.tables.specs.declared.Answer.{Answer}
 use Rattle.tables.specs.declared.Answer.the-variants.{Done}
-use Rattle.sets.specs.Sets.{rulesOf, checkSet, acceptedSet}
+use Rattle.sets.specs.Sets.{ruleAt, rulesFrom, rulesOf, checkSet, acceptedSet}
 use Rattle.sets.proofs.Sets.{length-rules}
 use Rattle.tables.proofs.Answers.{andThen-passed, unless-passed, unlessAny-passed}
 use Rattle.tables.proofs.Proper.{rows-proper}
@@ -77,6 +77,20 @@ pub verdict-count : (rules counts : List ℕ) (T : List Row) → length (verdict
 verdict-count rules counts T =
     length-map (formulasOf rules counts) (λ F. one (verdict F T))
     ∙ length-map (rulesOf rules counts) formula ∙ length-rules rules counts (length counts) 0
+
+rule-byte : (rules counts : List ℕ) (T : List Row) (k n i : ℕ) → i < n
+    → getD (verdictBytes (map formula (rulesFrom rules counts k n)) T) i 0 ≡ one (verdict (formula (ruleAt rules counts (k + i))) T)
+unfolding rulesFrom
+rule-byte rules counts T k zero i h = absurd (omega arith)
+rule-byte rules counts T k (suc n) zero h = ap (λ (j : ℕ). one (verdict (formula (ruleAt rules counts j)) T)) (omega arith)
+rule-byte rules counts T k (suc n) (suc i) h =
+    rule-byte rules counts T (suc k) n i (omega arith) ∙ ap (λ (j : ℕ). one (verdict (formula (ruleAt rules counts j)) T)) (omega arith)
+
+-- byte i is the verdict of rule i
+pub verdict-byte : (rules counts : List ℕ) (T : List Row) (i : ℕ) → i < length counts
+    → getD (verdictBytes (formulasOf rules counts) T) i 0 ≡ one (verdict (formula (ruleAt rules counts i)) T)
+verdict-byte rules counts T i h =
+    rule-byte rules counts T 0 (length counts) i h ∙ ap (λ (j : ℕ). one (verdict (formula (ruleAt rules counts j)) T)) (omega arith)
 
 module _ (rules counts table : List ℕ) (set-ok : acceptedSet rules counts ≡ true) (table-ok : acceptedTable table ≡ true) where
   abbrev bytes : List ℕ

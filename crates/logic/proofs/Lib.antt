@@ -20,3 +20,7 @@ pub mod EntryTree
 pub mod Nesting
 pub mod Walks
 pub mod Reasons
+pub mod Untouched
+pub mod Kept
+pub mod Runs
+pub mod Trials

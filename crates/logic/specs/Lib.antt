@@ -8,3 +8,4 @@ pub mod Parts
 pub mod Demand
 pub mod Depth
 pub mod Sets
+pub mod Trial

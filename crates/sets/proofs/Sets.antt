@@ -106,6 +106,9 @@ module _ (rules counts : List ℕ) where
 
   -- ---- counts that fit
   module _ (fit : countsFit rules counts ≡ true) where
+    pub set-few : length counts ≤ setLimit
+    set-few = number-few (and-left number-ok _ fit)
+
     entries-fit : entries-ok ≡ true
     entries-fit = and-right number-ok _ fit
 

@@ -35,6 +35,8 @@ pub use rows::NAME;
 pub use rows::ROW_WORDS;
 pub use rows::UP;
 pub use rows::VALUE;
+pub use rows::is_above;
+pub use rows::is_parent;
 pub use rules::ENTRY_LIMIT;
 pub use rules::NESTING_LIMIT;
 pub use rules::RULE_WORDS;

@@ -59,13 +59,13 @@ pub(crate) fn out_of_range(r: Row) -> bool
         | (2147483647 < r.value)
 }
 
-pub(crate) fn is_above(r: Row, b: Row) -> bool
+pub fn is_above(r: Row, b: Row) -> bool
     ensures { λ o. ⌜ o ≡ isAbove r b ⌝ }
 {
     (b.device < r.device) | ((b.device == r.device) & (b.at < r.at))
 }
 
-pub(crate) fn is_parent(r: Row, p: Row) -> bool
+pub fn is_parent(r: Row, p: Row) -> bool
     ensures { λ o. ⌜ o ≡ isParent r p ⌝ }
 {
     (p.device == r.device) & (p.at == r.up)

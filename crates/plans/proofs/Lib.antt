@@ -1,0 +1,4 @@
+pub mod Finding
+pub mod Splices
+pub mod Changes
+pub mod Exactly
