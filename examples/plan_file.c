@@ -16,13 +16,13 @@ struct form {
 };
 
 static const struct form forms[] = {
-    {"set", GABZERIL_SET, 3, {GABZERIL_DEVICE, GABZERIL_AT, GABZERIL_VALUE}, "set DEVICE AT VALUE"},
+    {"set", GABZERIL_STEP_SET, 3, {GABZERIL_DEVICE, GABZERIL_AT, GABZERIL_VALUE}, "set DEVICE AT VALUE"},
     {"add",
-     GABZERIL_ADD,
+     GABZERIL_STEP_ADD,
      6,
      {GABZERIL_DEVICE, GABZERIL_AT, GABZERIL_UP, GABZERIL_DEEP, GABZERIL_NAME, GABZERIL_VALUE},
      "add DEVICE AT UP DEEP NAME VALUE"},
-    {"remove", GABZERIL_REMOVE, 2, {GABZERIL_DEVICE, GABZERIL_AT}, "remove DEVICE AT"},
+    {"remove", GABZERIL_STEP_REMOVE, 2, {GABZERIL_DEVICE, GABZERIL_AT}, "remove DEVICE AT"},
 };
 
 enum { FORMS = sizeof forms / sizeof forms[0] };
@@ -167,7 +167,7 @@ void load_plan(const char *path, struct plan *plan)
 
 int step_text(const uint32_t *step, char text[STEP_BYTES])
 {
-    const struct form *form = &forms[step[0] - GABZERIL_SET];
+    const struct form *form = &forms[step[0] - GABZERIL_STEP_SET];
     int length = snprintf(text, STEP_BYTES, "%s", form->word);
     for (size_t i = 0; i < form->count; i++) {
         unsigned long number = step[1 + form->columns[i]];

@@ -4,8 +4,8 @@
  *     add DEVICE AT UP DEEP NAME VALUE
  *     remove DEVICE AT
  *
- * Numbers are decimal, 0 to 4294967295, without sign and without leading zeros. Spaces and tabs stand between
- * words, and may stand before and behind them. From # on a line is a comment. Lines without a step are skipped.
+ * Numbers are decimal, 0 to 4294967295, without sign and without leading zeros. Spaces, tabs and carriage returns
+ * stand between words, and may stand before and behind them. From # on a line is a comment. Lines without a step are skipped.
  * There is no limit to the number of lines or to the length of a comment.
  */
 #ifndef PLAN_FILE_H

@@ -91,7 +91,7 @@ enum gabzeril_kind {
 enum gabzeril_mode { GABZERIL_ALL = 1, GABZERIL_BRANCH = 2, GABZERIL_FULL = 3 };
 
 /* The kinds of step. */
-enum gabzeril_step { GABZERIL_SET = 1, GABZERIL_ADD = 2, GABZERIL_REMOVE = 3 };
+enum gabzeril_step { GABZERIL_STEP_SET = 1, GABZERIL_STEP_ADD = 2, GABZERIL_STEP_REMOVE = 3 };
 
 /* The numbers of the refusals. 15, 21 and 22 are not used. A table is tested for 8, 9, 10, 11, 26 and 12, in
  * this order; these are called "8 to 12 with 26" below. */
@@ -169,7 +169,7 @@ typedef struct gabzeril_trial {
     uint32_t number; /* 0: every step is done; else the number of the refusal */
     size_t place;    /* the refused step, from 0; of a refusal before the first step its own place; else 0 */
     size_t steps;    /* how many steps are done */
-    size_t rows;     /* rows of the working table */
+    size_t rows;     /* rows of the working table; 0 if refused before the first step */
 } gabzeril_trial;
 
 /* A run of words within a table. */
@@ -270,14 +270,15 @@ gabzeril_answer gabzeril_set_part(const uint32_t *rules, size_t rules_length,
 /* Trying a change. `steps` is the plan: GABZERIL_STEP_WORDS words for each step, its kind and then the words of a
  * row in the order of the columns. There is no limit to the number of steps.
  *
- *     GABZERIL_SET      the row of that device and at gets that value; up, deep and name are not looked at
- *     GABZERIL_ADD      the row is put in its place by device and at; all its words count
- *     GABZERIL_REMOVE   the row of that device and at is taken out; the other words are not looked at
+ *     GABZERIL_STEP_SET      the row of that device and at gets that value; up, deep and name are not looked at
+ *     GABZERIL_STEP_ADD      the row is put in its place by device and at; all its words count
+ *     GABZERIL_STEP_REMOVE   the row of that device and at is taken out; the other words are not looked at
  *
  * The pool is copied to `table`, the working table, which the steps change; `pool` itself stays as it is. After
  * each step the verdict of each rule on the working table is written behind those of the step before, as
  * gabzeril_set_verdicts would give it: byte i + k * counts_length is rule i after step k, both from 0. There are
  * none for the given pool. A plan without steps is accepted: `table` is then the pool, and there are no verdicts.
+ * Try a plan on all rows of the devices, not on parts: a row that was spare may matter after a step.
  *
  * Before the first step: 20 and 1 to 7, with the places of gabzeril_check_set; 8 to 12 with 26 of the pool, at
  * its row; 17, place 0, if `table` is shorter than the pool. Then no buffer is changed, and steps and rows are 0.

@@ -95,9 +95,9 @@ static void change(uint32_t kind, const uint32_t *row, uint32_t place)
 {
     after.rows = state.rows;
     memcpy(after.words, state.words, ROW_WORDS * sizeof *after.words * state.rows);
-    if (kind == GABZERIL_SET) {
+    if (kind == GABZERIL_STEP_SET) {
         row_of(&after, place)[GABZERIL_VALUE] = row[GABZERIL_VALUE];
-    } else if (kind == GABZERIL_ADD) {
+    } else if (kind == GABZERIL_STEP_ADD) {
         move_rows(place, place + 1);
         memcpy(row_of(&after, place), row, ROW_WORDS * sizeof *row);
     } else {
@@ -108,15 +108,15 @@ static void change(uint32_t kind, const uint32_t *row, uint32_t place)
 /* The number that a step of so many words is refused with but for 17, or 0. */
 static uint32_t do_step(const uint32_t *step, size_t words)
 {
-    if (words < STEP_WORDS || step[0] < GABZERIL_SET || step[0] > GABZERIL_REMOVE) {
+    if (words < STEP_WORDS || step[0] < GABZERIL_STEP_SET || step[0] > GABZERIL_STEP_REMOVE) {
         return GABZERIL_REFUSED_STEP;
     }
     const uint32_t *row = step + 1;
     uint32_t device = row[GABZERIL_DEVICE], at = row[GABZERIL_AT], place = place_of(device, at);
-    if (step[0] != GABZERIL_ADD && !is_there(place, device, at)) {
+    if (step[0] != GABZERIL_STEP_ADD && !is_there(place, device, at)) {
         return GABZERIL_REFUSED_ABSENT;
     }
-    if (step[0] == GABZERIL_REMOVE && has_rows_under(device, at)) {
+    if (step[0] == GABZERIL_STEP_REMOVE && has_rows_under(device, at)) {
         return GABZERIL_REFUSED_REMOVAL;
     }
     change(step[0], row, place);
@@ -157,10 +157,10 @@ static void make_step(uint32_t *step)
         step[i] = odd_number();
     }
     if (which >= 60) {
-        step[0] = GABZERIL_ADD;
+        step[0] = GABZERIL_STEP_ADD;
         make_row(step + 1);
     } else if (which >= 3) {
-        step[0] = which < 35 ? GABZERIL_SET : GABZERIL_REMOVE;
+        step[0] = which < 35 ? GABZERIL_STEP_SET : GABZERIL_STEP_REMOVE;
         if (state.rows > 0 && chance(95)) {
             memcpy(step + 1, row_of(&state, below(state.rows)), 2 * sizeof *step);
             step[1 + GABZERIL_AT] *= !chance(3);

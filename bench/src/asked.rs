@@ -4,6 +4,7 @@ use crate::cases::{
     label, A_TRUE, BOOK_ON_DEVICES, BOOK_ON_ONE_DEVICE, B_TRUE, C_TRUE, ONE_DEVICE, THREE_ROWS,
 };
 use crate::instructions::{shown, Counts};
+use crate::trial;
 
 /// A limit of the instructions of one case.
 struct Limit {
@@ -59,6 +60,7 @@ pub fn print(counts: &Counts, before: &Counts) {
     }
     print_growth(counts, before);
     print_set_verdicts(counts, before);
+    trial::print_asked(counts);
 }
 
 fn yes_or_no(met: bool) -> &'static str {

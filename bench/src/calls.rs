@@ -1,7 +1,7 @@
 //! The calls of the C interface, made on the library or on the Rust checker.
 
-use gabzeril_tests::answer::Answer;
-use gabzeril_tests::generate::Set;
+use gabzeril_tests::answer::{Answer, Trial};
+use gabzeril_tests::generate::{Plan, Set};
 use gabzeril_tests::{checker, ffi};
 
 /// The same functions of either side.
@@ -17,6 +17,7 @@ pub struct Side {
     check_set: fn(&Set) -> Answer,
     set_verdicts: fn(&Set, &[u32], &mut [u8]) -> Answer,
     set_part: fn(&Set, &[u32], u32, &mut [u32]) -> Answer,
+    try_plan: fn(&Plan, &mut [u32], &mut [u8]) -> Trial,
 }
 
 pub const LIBRARY: Side = Side {
@@ -31,6 +32,9 @@ pub const LIBRARY: Side = Side {
     check_set: |set| ffi::check_set(&set.rules, &set.counts),
     set_verdicts: |set, pool, verdicts| ffi::set_verdicts(&set.rules, &set.counts, pool, verdicts),
     set_part: |set, table, mode, part| ffi::set_part(&set.rules, &set.counts, table, mode, part),
+    try_plan: |plan, table, verdicts| {
+        ffi::try_plan(&plan.set.rules, &plan.set.counts, &plan.pool, &plan.steps, table, verdicts)
+    },
 };
 
 pub const CHECKER: Side = Side {
@@ -45,6 +49,9 @@ pub const CHECKER: Side = Side {
     check_set: |set| checker::check_set(&set.rules, &set.counts),
     set_verdicts: |set, pool, verdicts| checker::set_verdicts(&set.rules, &set.counts, pool, verdicts),
     set_part: |set, table, mode, part| checker::set_part(&set.rules, &set.counts, table, mode, part),
+    try_plan: |plan, table, verdicts| {
+        checker::try_plan(&plan.set.rules, &plan.set.counts, &plan.pool, &plan.steps, table, verdicts)
+    },
 };
 
 /// One call with its inputs.
@@ -103,6 +110,10 @@ pub enum Call {
         table: Vec<u32>,
         mode: u32,
     },
+    /// A plan of which no step is refused.
+    Try {
+        plan: Plan,
+    },
 }
 
 /// The outputs of a call, long enough for any. They are not cleared from one call to the next.
@@ -119,6 +130,13 @@ impl Outputs {
             words[..first.len()].copy_from_slice(first);
         }
         Outputs { words, bytes: vec![0; checker::MOST_FILE_BYTES] }
+    }
+
+    /// Clears what the call leaves free: the words past a working table.
+    pub fn clear_free(&mut self, call: &Call, answer: Answer) {
+        if let (Call::Try { .. }, Answer::Done(rows)) = (call, answer) {
+            self.words[rows * checker::ROW_WORDS..].fill(0);
+        }
     }
 }
 
@@ -144,7 +162,16 @@ impl Call {
             Call::EachPart { set, table, mode } => {
                 on_each_rule(set, |rule| (side.part)(rule, table, *mode, words))
             }
+            Call::Try { plan } => match (side.try_plan)(plan, words, bytes) {
+                Trial { number: 0, rows, .. } => Answer::Done(rows),
+                refused => refused.answer(),
+            },
         }
+    }
+
+    /// Whether the checker takes too long for it to be timed: each step has the verdicts of all rules.
+    pub fn is_long(&self) -> bool {
+        matches!(self, Call::Try { plan } if plan.step_count() > 2)
     }
 
     pub fn name(&self) -> String {
@@ -162,6 +189,7 @@ impl Call {
             Call::SetPart { mode, .. } => format!("set_part, mode {mode}"),
             Call::EachVerdict { .. } => "verdict of each rule".into(),
             Call::EachPart { mode, .. } => format!("part for each rule, mode {mode}"),
+            Call::Try { .. } => "try".into(),
         }
     }
 }

@@ -8,6 +8,7 @@ use crate::inputs::{
     one_device, path, places_in_one_chain, roots, roots_in_one_chain, rule_book, with_no_parent,
     with_wrong_depth, with_wrong_depths, A, B, C,
 };
+use crate::trial;
 
 pub struct Case {
     pub call: Call,
@@ -26,7 +27,7 @@ pub fn label(call: &str, on: &str, rows: u32) -> String {
     format!("{call}, {on}, {rows} rows")
 }
 
-fn case(call: Call, on: impl Into<String>, rows: u32) -> Case {
+pub fn case(call: Call, on: impl Into<String>, rows: u32) -> Case {
     Case { call, on: on.into(), rows }
 }
 
@@ -93,6 +94,7 @@ pub fn all() -> Vec<Case> {
         on_one_chain(&mut cases, rows);
     }
     of_the_rule_book(&mut cases);
+    trial::add_cases(&mut cases);
     cases
 }
 

@@ -33,12 +33,12 @@ pub fn devices(rows: u32, servers: u32) -> Vec<u32> {
     words_of(&pool)
 }
 
-fn root(device: u32, at: u32, name: u32, value: u32) -> Row {
+pub fn root(device: u32, at: u32, name: u32, value: u32) -> Row {
     Row { device, at, up: 0, deep: 0, name, value }
 }
 
 /// A row of the same device under this one.
-fn under(parent: &Row, at: u32, name: u32, value: u32) -> Row {
+pub fn under(parent: &Row, at: u32, name: u32, value: u32) -> Row {
     Row { device: parent.device, at, up: parent.at, deep: parent.deep + 1, name, value }
 }
 

@@ -18,6 +18,7 @@ mod sent;
 mod sqlite;
 mod stack;
 mod times;
+mod trial;
 
 use instructions::Counts;
 

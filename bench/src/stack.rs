@@ -25,50 +25,81 @@ pub fn print() {
 }
 
 fn measure_all() -> Vec<(&'static str, usize)> {
-    let (rules, mut tables) = (largest::rules(), largest::tables());
+    let mut tables = largest::tables();
     tables.extend([largest::table_of_two(), largest::table_of_ends(), largest::longest_pool()]);
-    let (mut words, mut bytes) = (vec![0; MOST_ROWS * ROW_WORDS], vec![0; 65_536]);
-    let mut most = vec![];
-    let mut note = |name: &'static str, used: usize| match most.iter_mut().find(|(known, _)| *known == name) {
-        Some((_, known)) => *known = used.max(*known),
-        None => most.push((name, used)),
-    };
-    for table in &tables {
-        note("check_table", stack_of(|| ffi::check_table(table)));
-        note("device_rows", stack_of(|| ffi::device_rows(table, 1)));
-        note("join", stack_of(|| ffi::join(&mut words, 0, table)));
-        let file = POOL.text_of(table);
-        note("read_pool", stack_of(|| ffi::read_pool(&file, &mut words)));
-        note("write_pool", stack_of(|| ffi::write_pool(table, &mut bytes)));
-    }
-    for rule in &rules {
-        note("check_rule", stack_of(|| ffi::check_rule(rule)));
-        let rule_file = RULE.text_of(rule);
-        for table in &tables {
-            note("verdict", stack_of(|| ffi::verdict(rule, table)));
-            note("marks", stack_of(|| ffi::marks(rule, table, &mut bytes)));
-            let pool_file = POOL.text_of(table);
-            note("check_files", stack_of(|| ffi::check_files(&rule_file, &pool_file)));
+    let mut most = Most { calls: vec![], words: vec![0; MOST_ROWS * ROW_WORDS], bytes: vec![0; 65_536] };
+    most.of_tables(&tables);
+    most.of_rules(&tables);
+    most.of_sets(&tables);
+    most.calls
+}
+
+/// The most that each call took, and its outputs.
+struct Most {
+    calls: Vec<(&'static str, usize)>,
+    words: Vec<u32>,
+    bytes: Vec<u8>,
+}
+
+impl Most {
+    fn note<T>(&mut self, name: &'static str, call: impl FnOnce(&mut [u32], &mut [u8]) -> T) {
+        let used = stack_of(|| call(&mut self.words, &mut self.bytes));
+        match self.calls.iter_mut().find(|(known, _)| *known == name) {
+            Some((_, known)) => *known = used.max(*known),
+            None => self.calls.push((name, used)),
         }
-        for table in &tables {
-            let pool_file = POOL.text_of(table);
-            for (mode, name) in [(1, "part, mode 1"), (2, "part, mode 2"), (3, "part, mode 3")] {
-                note(name, stack_of(|| ffi::part(rule, table, mode, &mut words)));
+    }
+
+    fn of_tables(&mut self, tables: &[Vec<u32>]) {
+        for table in tables {
+            self.note("check_table", |_, _| ffi::check_table(table));
+            self.note("device_rows", |_, _| ffi::device_rows(table, 1));
+            self.note("join", |words, _| ffi::join(words, 0, table));
+            let file = POOL.text_of(table);
+            self.note("read_pool", |words, _| ffi::read_pool(&file, words));
+            self.note("write_pool", |_, bytes| ffi::write_pool(table, bytes));
+        }
+    }
+
+    fn of_rules(&mut self, tables: &[Vec<u32>]) {
+        for rule in &largest::rules() {
+            self.note("check_rule", |_, _| ffi::check_rule(rule));
+            let rule_file = RULE.text_of(rule);
+            for table in tables {
+                self.note("verdict", |_, _| ffi::verdict(rule, table));
+                self.note("marks", |_, bytes| ffi::marks(rule, table, bytes));
+                let pool_file = POOL.text_of(table);
+                self.note("check_files", |_, _| ffi::check_files(&rule_file, &pool_file));
             }
-            note("report", stack_of(|| ffi::report(&rule_file, &pool_file, &mut bytes)));
-        }
-    }
-    for set in &largest::sets() {
-        let (rules, counts) = (&set.rules, &set.counts);
-        note("check_set", stack_of(|| ffi::check_set(rules, counts)));
-        for table in &tables {
-            note("set_verdicts", stack_of(|| ffi::set_verdicts(rules, counts, table, &mut bytes)));
-            for (mode, name) in [(1, "set_part, mode 1"), (2, "set_part, mode 2"), (3, "set_part, mode 3")] {
-                note(name, stack_of(|| ffi::set_part(rules, counts, table, mode, &mut words)));
+            for table in tables {
+                let pool_file = POOL.text_of(table);
+                for (mode, name) in [(1, "part, mode 1"), (2, "part, mode 2"), (3, "part, mode 3")] {
+                    self.note(name, |words, _| ffi::part(rule, table, mode, words));
+                }
+                self.note("report", |_, bytes| ffi::report(&rule_file, &pool_file, bytes));
             }
         }
     }
-    most
+
+    fn of_sets(&mut self, tables: &[Vec<u32>]) {
+        for set in &largest::sets() {
+            let (rules, counts) = (&set.rules, &set.counts);
+            self.note("check_set", |_, _| ffi::check_set(rules, counts));
+            for table in tables {
+                self.note("set_verdicts", |_, bytes| ffi::set_verdicts(rules, counts, table, bytes));
+                for (mode, name) in
+                    [(1, "set_part, mode 1"), (2, "set_part, mode 2"), (3, "set_part, mode 3")]
+                {
+                    self.note(name, |words, _| ffi::set_part(rules, counts, table, mode, words));
+                }
+                for steps in [vec![largest::steps(table, 18)], largest::refused_steps(table)].concat() {
+                    self.note("try", |words, bytes| {
+                        ffi::try_plan(rules, counts, table, &steps, words, bytes)
+                    });
+                }
+            }
+        }
+    }
 }
 
 /// The bytes below this function that a call changes.

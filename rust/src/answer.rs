@@ -51,9 +51,9 @@ impl From<Result<usize, Refusal>> for Answer {
     }
 }
 
-/// Whether a refusal may have this number. 15 is retired, and 21 to 25 are not used.
+/// Whether a refusal may have this number. 15 is retired, 21 and 22 are not used.
 pub fn is_refusal(number: u32) -> bool {
-    matches!(number, 1..=14 | 16..=20 | 26)
+    matches!(number, 1..=14 | 16..=20 | 23..=26)
 }
 
 /// Where the rows of one device stand, in words.
@@ -64,17 +64,45 @@ pub struct Span {
     pub length: usize,
 }
 
+/// What a trial answers.
+#[repr(C)]
+#[derive(Clone, Copy, Debug, PartialEq, Eq)]
+pub struct Trial {
+    /// 0 if no step is refused; the place then is 0 too.
+    pub number: u32,
+    pub place: usize,
+    /// Steps done.
+    pub steps: usize,
+    /// Rows of the working table.
+    pub rows: usize,
+}
+
+impl Trial {
+    /// A refusal before step 0.
+    pub fn before_steps(refusal: Refusal) -> Trial {
+        Trial { number: refusal.number, place: refusal.place, steps: 0, rows: 0 }
+    }
+
+    /// The refusal, or the number of steps done.
+    pub fn answer(&self) -> Answer {
+        match self.number {
+            0 => Answer::Done(self.steps),
+            number => Answer::refused(number, self.place),
+        }
+    }
+}
+
 #[cfg(test)]
 mod tests {
     use super::*;
 
     #[test]
     fn unused_numbers_are_no_answers() {
-        for number in [15, 21, 22, 23, 24, 25, 27, 100, 126] {
+        for number in [15, 21, 22, 27, 100, 126] {
             let malformed = Answer::Malformed { number, place: 0, value: 0 };
             assert_eq!(Answer::from_words(number, 0, 0), malformed);
         }
-        for number in (1..=14).chain(16..=20).chain([26]) {
+        for number in (1..=14).chain(16..=20).chain(23..=26) {
             assert_eq!(Answer::from_words(number, 3, 0), Answer::refused(number, 3));
         }
     }

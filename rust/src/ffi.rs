@@ -31,6 +31,9 @@ pub use files_entry::*;
 #[cfg(feature = "sets")]
 pub use sets::*;
 
+#[cfg(feature = "trial")]
+pub use trial::*;
+
 #[repr(C)]
 struct RawAnswer {
     number: u32,
@@ -302,5 +305,55 @@ mod sets {
                 length,
             )
         })
+    }
+}
+
+#[cfg(feature = "trial")]
+mod trial {
+    use super::*;
+    use crate::answer::Trial;
+
+    extern "C" {
+        fn gabzeril_try(
+            rules: *const u32,
+            rules_length: usize,
+            counts: *const u32,
+            counts_length: usize,
+            pool: *const u32,
+            pool_length: usize,
+            steps: *const u32,
+            steps_length: usize,
+            table: *mut u32,
+            table_length: usize,
+            verdicts: *mut u8,
+            verdicts_length: usize,
+        ) -> Trial;
+    }
+
+    pub fn try_plan(
+        rules: &[u32],
+        counts: &[u32],
+        pool: &[u32],
+        steps: &[u32],
+        table: &mut [u32],
+        verdicts: &mut [u8],
+    ) -> Trial {
+        let (table_length, verdicts_length) = (table.len(), verdicts.len());
+        unsafe {
+            gabzeril_try(
+                lent(rules),
+                rules.len(),
+                lent(counts),
+                counts.len(),
+                lent(pool),
+                pool.len(),
+                lent(steps),
+                steps.len(),
+                lent_mut(table),
+                table_length,
+                lent_mut(verdicts),
+                verdicts_length,
+            )
+        }
     }
 }

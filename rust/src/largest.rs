@@ -1,7 +1,8 @@
 //! The largest accepted inputs, for calls on a small stack.
 
 use crate::checker::{
-    words_of, Row, ENTRY_WORDS, MOST_ENTRIES, MOST_NAME, MOST_NESTED, MOST_ROWS, MOST_RULES, MOST_VALUE,
+    rows_of, words_of, Row, ADD, ENTRY_WORDS, MOST_ENTRIES, MOST_NAME, MOST_NESTED, MOST_ROWS, MOST_RULES,
+    MOST_VALUE, REMOVE, SET, STEP_WORDS,
 };
 use crate::generate::Set;
 
@@ -168,6 +169,56 @@ fn table(up_and_name: impl Fn(u32) -> [u32; 2]) -> Vec<u32> {
     words_of(&rows)
 }
 
+/// So many steps on one of these tables, all of which can be done: the first leaf, one in the middle and the
+/// last are removed, put back and set, and so is the value of the first row.
+pub fn steps(table: &[u32], count: usize) -> Vec<u32> {
+    let rows = rows_of(table);
+    let leaves: Vec<&Row> =
+        rows.iter().filter(|row| !rows.iter().any(|other| row.is_parent_of(other))).collect();
+    let mut steps: Vec<[u32; STEP_WORDS]> = vec![];
+    for value in MOST_ROWS as u32.. {
+        for leaf in [leaves[0], leaves[leaves.len() / 2], leaves[leaves.len() - 1]] {
+            // No row has this value, so that none becomes an equal sibling.
+            let row = rows[0];
+            steps.extend([
+                step(REMOVE, leaf),
+                step(ADD, leaf),
+                step(SET, &Row { value, ..*leaf }),
+                step(SET, &Row { value: value + 1_000_000, ..row }),
+                step(SET, leaf),
+                step(SET, &row),
+            ]);
+        }
+        if steps.len() >= count {
+            break;
+        }
+    }
+    steps[..count].concat()
+}
+
+/// Steps of which the last is refused: with 8 and, behind a remove, with 9, 11, 26 and 12; with 24 and 23.
+pub fn refused_steps(table: &[u32]) -> Vec<Vec<u32>> {
+    let rows = rows_of(table);
+    let (last, above) = (rows[MOST_ROWS - 1], rows[MOST_ROWS - 2]);
+    let removed = step(REMOVE, &last);
+    let set = step(SET, &Row { value: LAST_VALUE + 1, ..last });
+    let twin = Row { at: last.at, ..above };
+    vec![
+        [set, step(ADD, &Row { device: 2, ..last })].concat(),
+        [removed, step(ADD, &Row { value: MOST_VALUE + 1, ..last })].concat(),
+        [removed, step(ADD, &Row { up: last.at, deep: 1, ..last })].concat(),
+        [removed, step(ADD, &Row { deep: last.deep + 1, ..last })].concat(),
+        [removed, step(ADD, &twin)].concat(),
+        [removed, removed].concat(),
+        [&set[..], &removed[..STEP_WORDS - 1]].concat(),
+    ]
+}
+
+fn step(kind: u32, row: &Row) -> [u32; STEP_WORDS] {
+    let [device, at, up, deep, name, value] = row.words();
+    [kind, device, at, up, deep, name, value]
+}
+
 /// The accepted pool with the longest file: every word has as many digits as it can. Each row hangs under the
 /// one before, so that none is less deep than it might be.
 pub fn longest_pool() -> Vec<u32> {
@@ -185,7 +236,7 @@ pub fn longest_pool() -> Vec<u32> {
 mod tests {
     use super::*;
     use crate::answer::Answer;
-    use crate::checker::{check_rule, check_set, check_table, verdict};
+    use crate::checker::{check_rule, check_set, check_table, rows_after, verdict};
 
     #[test]
     fn all_are_accepted() {
@@ -199,6 +250,25 @@ mod tests {
         assert_eq!(longest, Some(MOST_RULES * MOST_ENTRIES * ENTRY_WORDS));
         for table in tables().into_iter().chain([table_of_two(), table_of_ends(), longest_pool()]) {
             assert_eq!(check_table(&table), Answer::Done(MOST_ROWS));
+        }
+    }
+
+    /// The table after these steps, or the number of the refusal of one.
+    fn after(table: &[u32], steps: &[u32]) -> Result<Vec<Row>, u32> {
+        steps.chunks(STEP_WORDS).try_fold(rows_of(table), |rows, step| rows_after(&rows, step))
+    }
+
+    #[test]
+    fn steps_are_as_described() {
+        for table in tables().into_iter().chain([table_of_two(), table_of_ends()]) {
+            let steps = steps(&table, 36);
+            assert_eq!(after(&table, &steps).map(|rows| words_of(&rows)), Ok(table.clone()));
+            let refused = refused_steps(&table).into_iter().map(|steps| {
+                let all_but_last = steps.len().div_ceil(STEP_WORDS) - 1;
+                after(&table, &steps[..all_but_last * STEP_WORDS]).expect("steps that can be done");
+                after(&table, &steps).expect_err("a refused step")
+            });
+            assert_eq!(refused.collect::<Vec<_>>(), [8, 9, 11, 26, 12, 24, 23]);
         }
     }
 

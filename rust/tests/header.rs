@@ -18,7 +18,7 @@ const TWO_DEVICES: [u32; 12] = [1, 1, 0, 0, 1, 1, 2, 1, 0, 0, 1, 2];
 const RULE_OF_ROOTS: [u32; 8] = [6, 1, 0, 1, 7, 0, 1, 1];
 
 /// What the header has beside constants.
-const OTHER_NAMES: [&str; 27] = [
+const OTHER_NAMES: [&str; 30] = [
     "GABZERIL_H",
     "gabzeril_answer",
     "gabzeril_check_files",
@@ -41,6 +41,9 @@ const OTHER_NAMES: [&str; 27] = [
     "gabzeril_set_part",
     "gabzeril_set_verdicts",
     "gabzeril_span",
+    "gabzeril_step",
+    "gabzeril_trial",
+    "gabzeril_try",
     "gabzeril_verdict",
     "gabzeril_write_pool",
     "gabzeril_write_rule",
@@ -122,7 +125,7 @@ fn between<'a>(text: &'a str, start: &str, end: &str) -> &'a str {
 
 /// What the header must have, by the checker.
 fn numbers_of_checker() -> Numbers {
-    let parts = [limits(), buffers(), columns(), kinds(), second_words(), modes(), refusals()];
+    let parts = [limits(), buffers(), columns(), kinds(), second_words(), modes(), steps(), refusals()];
     let mut numbers = Numbers::new();
     for (name, number) in parts.into_iter().flatten() {
         assert!(numbers.insert(name.clone(), number).is_none(), "{name} stands twice");
@@ -134,6 +137,7 @@ fn limits() -> Vec<(String, u64)> {
     named([
         ("ENTRY_WORDS", ENTRY_WORDS as u64),
         ("ROW_WORDS", ROW_WORDS as u64),
+        ("STEP_WORDS", STEP_WORDS as u64),
         ("ENTRY_LIMIT", MOST_ENTRIES as u64),
         ("ROW_LIMIT", MOST_ROWS as u64),
         ("NESTING_LIMIT", MOST_NESTED as u64),
@@ -219,6 +223,20 @@ fn modes() -> Vec<(String, u64)> {
     known.map(|mode| (name(mode).to_string(), mode.into())).collect()
 }
 
+/// The kinds of step by what they do to a table of one row.
+fn steps() -> Vec<(String, u64)> {
+    let rows = rows_of(&TWO_DEVICES[..ROW_WORDS]);
+    let after = |kind: u32| [1, 2].map(|at| rows_after(&rows, &[kind, 1, at, 0, 0, 1, 2]));
+    let known = (0..100).filter(|&kind| after(kind) != [Err(23), Err(23)]);
+    let name = |kind| match after(kind).map(|rows| rows.map(|rows| rows.len())) {
+        [Ok(1), Err(24)] => "STEP_SET",
+        [Err(10), Ok(2)] => "STEP_ADD",
+        [Ok(0), Err(24)] => "STEP_REMOVE",
+        other => panic!("kind {kind}: {other:?}"),
+    };
+    known.map(|kind| (name(kind).to_string(), kind.into())).collect()
+}
+
 /// Each refusal by a call that is refused so.
 fn refusals() -> Vec<(String, u64)> {
     let one_row = &TWO_DEVICES[..ROW_WORDS];
@@ -239,6 +257,9 @@ fn refusals() -> Vec<(String, u64)> {
         ("REFUSED_PARENT", check_table(&[1, 2, 1, 1, 1, 1])),
         ("REFUSED_DEPTH", check_table(&[1, 1, 0, 1, 1, 1])),
         ("REFUSED_COUNTS", check_set(&RULE_OF_ROOTS, &[])),
+        ("REFUSED_STEP", try_step([0, 1, 1, 0, 0, 1, 1])),
+        ("REFUSED_ABSENT", try_step([SET, 2, 1, 0, 0, 1, 1])),
+        ("REFUSED_REMOVAL", try_step([REMOVE, 1, 1, 0, 0, 1, 1])),
         ("REFUSED_SIBLING", check_table(&[1, 1, 0, 0, 1, 1, 2, 1, 0, 0, 1, 1])),
         ("REFUSED_MODE", part(&RULE_OF_ROOTS, one_row, 0, &mut [])),
         ("REFUSED_DEVICE", part(&RULE_OF_ROOTS, &TWO_DEVICES, 1, &mut [])),
@@ -248,6 +269,12 @@ fn refusals() -> Vec<(String, u64)> {
         ("REFUSED_LINE", read_rule(b"kind a b c\n1", &mut [])),
     ];
     named(answers.map(|(name, answer)| (name, answer.number().into())))
+}
+
+/// A step on a root and a row under it.
+fn try_step(step: [u32; STEP_WORDS]) -> Answer {
+    let pool = [1, 1, 0, 0, 1, 1, 1, 2, 1, 1, 1, 1];
+    try_plan(&RULE_OF_ROOTS, &[2], &pool, &step, &mut pool.clone(), &mut [0]).answer()
 }
 
 /// The refusals that an answer may have.
@@ -305,7 +332,7 @@ fn every_refusal_has_one_name_and_one_text() {
     named.sort();
     let numbers: Vec<u64> = [0].into_iter().chain(refusal_numbers()).collect();
     assert_eq!(named, numbers);
-    assert!([15, 21, 22, 23, 24, 25].iter().all(|number| !named.contains(number)));
+    assert!([15, 21, 22].iter().all(|number| !named.contains(number)));
     let texts = refusal_texts();
     assert_eq!(texts.len() as u64, numbers.last().expect("a number") + 1);
     // The numbers below the largest that are not used share one text, which no other has.

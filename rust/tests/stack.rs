@@ -5,7 +5,8 @@
     feature = "engine",
     feature = "parts",
     feature = "files_entry",
-    feature = "sets"
+    feature = "sets",
+    feature = "trial"
 ))]
 use gabzeril_tests::{checker, ffi, largest};
 
@@ -145,4 +146,35 @@ fn sets() {
             }
         }
     }
+}
+
+#[cfg(feature = "trial")]
+#[test]
+fn trials() {
+    let mut plans = 0;
+    for set in largest::sets() {
+        for table in largest::tables().into_iter().chain([largest::table_of_two(), largest::table_of_ends()])
+        {
+            // Many steps once, since each has the verdicts of all rules.
+            let count = if plans == 0 { 200 } else { 9 };
+            for steps in [vec![largest::steps(&table, count)], largest::refused_steps(&table)].concat() {
+                try_on_a_small_stack(&set, &table, &steps);
+                plans += 1;
+            }
+        }
+    }
+}
+
+#[cfg(feature = "trial")]
+fn try_on_a_small_stack(set: &gabzeril_tests::generate::Set, pool: &[u32], steps: &[u32]) {
+    let (rules, counts) = (&set.rules, &set.counts);
+    let bytes = (steps.len() / checker::STEP_WORDS + 1) * counts.len();
+    let (mut expected, mut expected_verdicts) = (vec![7; pool.len()], vec![7; bytes]);
+    let answer = checker::try_plan(rules, counts, pool, steps, &mut expected, &mut expected_verdicts);
+    let (mut table, mut verdicts) = (vec![7; pool.len()], vec![7; bytes]);
+    let found = on_a_small_stack(|| ffi::try_plan(rules, counts, pool, steps, &mut table, &mut verdicts));
+    assert_eq!((found, verdicts), (answer, expected_verdicts), "{set:?} {steps:?}");
+    // What lies behind the working table may be any.
+    let words = answer.rows * checker::ROW_WORDS;
+    assert_eq!(table[..words], expected[..words], "{steps:?}");
 }

@@ -1,18 +1,17 @@
 // The counts that the program prints.
 use engine::marks;
 use parts::part_size;
-use tables::Answer;
 use tables::DEVICE;
 use tables::ROW_LIMIT;
 use tables::ROW_WORDS;
 use tables::TABLE_WORDS;
+use tables::value_of;
 ghost use mathlib.Core.Path.{_≡_};
 ghost use mathlib.Core.Bool.{true};
 ghost use Prim.Native.Nat.{_+_, _*_, _≤_, _<_};
 ghost use lib.ListN.{length};
 ghost use lib.Dec.{eqb};
 ghost use Rattle.base.specs.Lists.{select};
-ghost use Rattle.tables.specs.Answers.{value};
 ghost use Rattle.tables.specs.Words.{rowWords, rows, rowAt};
 ghost use Rattle.tables.specs.Rules.{one, acceptedRule};
 ghost use Rattle.tables.specs.Tables.{rowLimit, acceptedTable};
@@ -20,19 +19,6 @@ ghost use Rattle.tables.specs.Devices.{fromDevice};
 ghost use Rattle.logic.specs.Formulas.{formula};
 ghost use Rattle.logic.specs.Verdict.{verdict};
 ghost use Rattle.checker.specs.Report.{begins, partCount, countAt, partsCount, markedCount, counts};
-
-// The value of an accepted answer, 0 of a refused one.
-pub(crate) fn value_of(answer: Answer) -> usize
-    ensures { λ r. ⌜ r ≡ value answer ⌝ }
-{
-    match answer {
-        Answer::Done(n) => n,
-        Answer::Refused {
-            number: _,
-            place: _,
-        } => 0,
-    }
-}
 
 // Whether row i is the first of its device.
 fn begins_device(pool: &[u32], i: usize) -> bool

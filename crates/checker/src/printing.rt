@@ -1,11 +1,11 @@
 // The text that the program prints for a rule file and a pool file.
 use super::counting::count_words;
-use super::counting::value_of;
 use super::loading::load_pool;
 use super::loading::load_rule;
 use tables::Answer;
 use tables::RULE_WORDS;
 use tables::TABLE_WORDS;
+use tables::value_of;
 use tables::write_counts;
 use tables::write_refusal;
 ghost use mathlib.Core.Path.{_≡_};

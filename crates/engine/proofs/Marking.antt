@@ -12,10 +12,10 @@ use Rattle.base.proofs.Bools.{either, and-left, and-right, and-both, or-left, o
 use Rattle.base.proofs.Lists.{select-append}
 use Rattle.tables.specs.Words.{rowAt, rowCount, rows, rowsFrom}
 use Rattle.tables.specs.Rules.{one}
-use Rattle.tables.specs.Tables.{acceptedTable}
+use Rattle.tables.specs.Tables.{sameRow, acceptedTable}
 use Rattle.tables.specs.declared.Row.{Row}
 use Rattle.tables.proofs.Accepted.{same-place}
-use Rattle.logic.specs.Marks.{sameRow, rowOf}
+use Rattle.logic.specs.Marks.{rowOf}
 use Rattle.logic.proofs.Walks.{rows-append}
 use Rattle.engine.specs.Places.{placeOf}
 use Rattle.engine.specs.Marked.{markRows, markIn, markAt}

@@ -1,7 +1,7 @@
 -- Whether a rule has a quantifier that reaches a row: one law for each way through the code's question. Assumes nothing.
-use Prim.Native.Nat.{ℕ, zero, suc, _+_, _-_, _<_, _≤_}
+use Prim.Native.Nat.{ℕ, zero, suc, _+_, _<_, _≤_}
 use mathlib.Core.Path.{_≡_, refl, sym, ap, ap₂, subst, _∙_}
-use mathlib.Core.Bool.{Bool, true, false, not, cond, _&&_, _||_, true≢false}
+use mathlib.Core.Bool.{Bool, true, false, _&&_, true≢false}
 use mathlib.Core.List.{List, [], _∷_, map}
 use native.Mathlib.Numerals.{add-one}
 use native.Mathlib.Omega.{arith}
@@ -9,7 +9,7 @@ use lib.ListN.{length, getD, set}
 use lib.Seq.{getD-set-same, getD-set-other}
 use lib.Dec.{eqb}
 use borrow.Author.Tests.{eqb-true, eqb-false}
-use Rattle.base.specs.Lists.{_∈_, any, when, select, concatMap}
+use Rattle.base.specs.Lists.{any, when, select, concatMap}
 use Rattle.base.proofs.Bools.{either, and-left, and-right}
 use Rattle.base.proofs.Lists.{any-at, any-hit, concatMap-out, select-out}
 use Rattle.tables.specs.Words.{rowAt, rowCount, rows, entryAt, entryCount}
@@ -25,7 +25,7 @@ use Rattle.logic.specs.Verdict as meaning
 use Rattle.logic.specs.Parts.{Chains, chainsWith, reach, reachedIn}
 use Rattle.engine.specs.Places.{bindAt}
 use Rattle.engine.specs.Ready.{Ready, ReadyRows}
-use Rattle.engine.specs.Touching.{OnWay, own, up, WayUp, depthUnder, depthOf, Lands, Known, Misses}
+use Rattle.engine.specs.Touching.{OnWay, own, up, depthUnder, depthOf, Lands, Known, Misses}
 use Rattle.engine.specs.declared.bindings.Bindings.{Bindings}
 use Rattle.engine.proofs.Opened.{Opened, not-formula, joined-formula, quantified-formula, compared-formula}
 use Rattle.engine.proofs.Steps as steps

@@ -1,30 +1,30 @@
 -- A trial's run: the loop over the steps, and the call. Assumes nothing.
-use Prim.Native.Nat.{ℕ, zero, suc, _+_, _-_, _*_, _/_, _<_, _≤_}
+use Prim.Native.Nat.{ℕ, suc, _+_, _-_, _*_, _/_, _<_, _≤_}
 use native.Mathlib.Nat.{mul-suc}
 use native.Mathlib.Numerals.{add-one}
 use native.Mathlib.Omega.{arith}
 use mathlib.Core.Path.{_≡_, refl, sym, ap, ap₂, subst, _∙_}
 use mathlib.Core.Bool.{Bool, true, false, cond, true≢false}
-use mathlib.Core.List.{List, [], _∷_, _++_}
-use lib.ListN.{length, getD, take, drop, replicate, length-append, length-drop, length-replicate, take-append-drop}
-use lib.Seq.{sets, sets-eq, length-sets, length-take-le, take-all, take-at, drop-at, drop-drop, take-append-add, take-append-seam, drop-append-add}
+use mathlib.Core.List.{List, _++_}
+use lib.ListN.{length, take, drop, replicate, length-append, length-drop, length-replicate, take-append-drop}
+use lib.Seq.{sets, sets-eq, length-sets, length-take-le, take-all, take-at, drop-at, drop-drop}
 use lib.Dec.{leb}
 use borrow.Author.Tests.{le-leb, lt-leb, leb-true}
 use Rattle.tables.specs.Answers.{number, place, value, isDone, andThen, unless}
-use Rattle.tables.specs.Words.{rowWords, rowCount, rows}
+use Rattle.tables.specs.Words.{rowWords, rows}
 use Rattle.tables.specs.Tables.{checkTable, acceptedTable}
 use Rattle.tables.specs.declared.Answer.{Answer}
 use Rattle.tables.specs.declared.Answer.the-variants.{Done, Refused}
 use Rattle.tables.proofs.Answers.{unless-ok, andThen-first, andThen-next, andThen-passed}
 use Rattle.sets.specs.Sets.{setLimit, checkSet, acceptedSet}
-use Rattle.plans.specs.Plans.{stepWords, stepAt, stepsFrom, stepCount, stepsOf, stepPlace, after}
+use Rattle.plans.specs.Plans.{stepWords, stepAt, stepsFrom, stepCount, stepsOf, tableAfter}
 use Rattle.plans.specs.declared.Trial.{Trial}
 use Rattle.logic.specs.Formulas.{formulasOf}
 use Rattle.logic.specs.Verdict.{verdictBytes}
-use Rattle.logic.specs.Trial.{State, given, stepped, atStep, stepAnswer, Run, run, beginAnswer, trialRun, trialOf, verdictsLeft, TableLeft}
+use Rattle.logic.specs.Trial.{State, given, stepped, stepAnswer, Outcome, trySteps, beginAnswer, nothingDone, trialOutcome, returnedBy, trialAnswer, appendedBy, verdictsOut, TableLeft}
 use Rattle.logic.proofs.Calls.{verdict-count}
 use Rattle.logic.proofs.Runs.{accepted-after, table-fits, verdicts-fit}
-use Rattle.engine.specs.Trying.{byteAt, stateOf, Standing, Taken, StepEnd, Begun, runFrom, Ran}
+use Rattle.engine.specs.Trying.{byteAt, stateOf, BeforeStep, Taken, StepEnd, Begun, outcomeFrom, Ran}
 use Rattle.engine.proofs.Answered.{then-assoc}
 use Rattle.engine.proofs.Stepping.{first-bytes}
 
@@ -69,16 +69,16 @@ module _ (rules counts steps : List ℕ) (words₀ : ℕ) (table₀ verdicts₀ 
   abbrev n : ℕ
   n = length counts
 
-  abbrev runs : ℕ → State → List (List ℕ) → Run
-  runs = run (formulasOf rules counts) (length table₀) (length verdicts₀)
+  abbrev runs : ℕ → State → List (List ℕ) → Outcome
+  runs = trySteps (formulasOf rules counts) (length table₀) (length verdicts₀)
 
   pub record Running (k words : ℕ) (table bytes verdicts : List ℕ) : Type 0 where
-    pub standing : Standing rules counts k words table bytes verdicts
+    pub standing : BeforeStep rules counts k words table bytes verdicts
     pub same-table : length table ≡ length table₀
     pub same-verdicts : length verdicts ≡ length verdicts₀
     pub within : k ≤ stepCount steps
     pub ahead : drop (n * k) verdicts ≡ drop (n * k) verdicts₀
-    pub rest : runFrom rules counts steps words₀ table₀ verdicts₀
+    pub rest : outcomeFrom rules counts steps words₀ table₀ verdicts₀
         ≡ runs k (stateOf n k words table verdicts) (stepsFrom steps k (stepCount steps - k))
 
   pub run-begin : Begun rules counts words₀ table₀ → Running 0 words₀ table₀ (replicate setLimit 0) verdicts₀
@@ -115,14 +115,14 @@ module _ (rules counts steps : List ℕ) (words₀ : ℕ) (table₀ verdicts₀ 
     many = length-take-le (n * k) verdicts (r .standing .bytes-inside)
 
     -- a run that ends in this state
-    ran : {trial : Trial} {answer : Answer} → runFrom rules counts steps words₀ table₀ verdicts₀ ≡ record { answer = answer; steps = k; state = x }
-        → trial ≡ trialOf (record { answer = answer; steps = k; state = x })
+    ran : {trial : Trial} {answer : Answer} → outcomeFrom rules counts steps words₀ table₀ verdicts₀ ≡ record { answer = answer; steps = k; state = x }
+        → trial ≡ returnedBy (record { answer = answer; steps = k; state = x })
         → Ran rules counts steps words₀ table₀ verdicts₀ trial table verdicts
     ran {trial} {answer} e t-is = record {
-      returned = t-is ∙ ap trialOf (sym e);
+      returned = t-is ∙ ap returnedBy (sym e);
       same-length = r .same-table;
-      working = subst (λ (z : Run). take (length (z .state .table)) table ≡ z .state .table) (sym e) (ap (λ (m : ℕ). take m table) long);
-      appended = subst (λ (z : Run). verdicts ≡ verdictsLeft z verdicts₀) (sym e) kept;
+      working = subst (λ (z : Outcome). take (length (z .state .table)) table ≡ z .state .table) (sym e) (ap (λ (m : ℕ). take m table) long);
+      appended = subst (λ (z : Outcome). verdicts ≡ appendedBy z verdicts₀) (sym e) kept;
     }
       where
         kept : verdicts ≡ take (n * k) verdicts ++ drop (length (take (n * k) verdicts)) verdicts₀
@@ -132,7 +132,7 @@ module _ (rules counts steps : List ℕ) (words₀ : ℕ) (table₀ verdicts₀ 
 
     pub run-end : stepCount steps ≤ k
         → Ran rules counts steps words₀ table₀ verdicts₀ (record { number = 0; place = 0; steps = k; rows = words / rowWords }) table verdicts
-    unfolding run stepsFrom
+    unfolding trySteps stepsFrom
     run-end h =
         let z : stepCount steps - k ≡ 0 = omega arith in
         ran (r .rest ∙ ap (λ (j : ℕ). runs k x (stepsFrom steps k j)) z)
@@ -149,11 +149,11 @@ module _ (rules counts steps : List ℕ) (words₀ : ℕ) (table₀ verdicts₀ 
       abbrev answerHere : Answer
       answerHere = stepAnswer (formulasOf rules counts) (length table₀) (length verdicts₀) k x s
 
-      splits : runFrom rules counts steps words₀ table₀ verdicts₀
+      splits : outcomeFrom rules counts steps words₀ table₀ verdicts₀
           ≡ cond (isDone answerHere)
           (runs (suc k) (stepped (formulasOf rules counts) x s) (stepsFrom steps (suc k) (stepCount steps - suc k)))
           (record { answer = answerHere; steps = k; state = x })
-      unfolding run stepsFrom
+      unfolding trySteps stepsFrom
       splits = let z : stepCount steps - k ≡ suc (stepCount steps - suc k) = omega arith in r .rest ∙ ap (λ (j : ℕ). runs k x (stepsFrom steps k j)) z
 
       module _ {step : List ℕ} (step-is : step ≡ stepAt steps k) {answer : Answer} {table′ bytes′ verdicts′ : List ℕ}
@@ -161,17 +161,17 @@ module _ (rules counts steps : List ℕ) (words₀ : ℕ) (table₀ verdicts₀ 
         taken : Taken rules counts k words s table bytes verdicts answer table′ bytes′ verdicts′
         taken = subst (λ (z : List ℕ). Taken rules counts k words z table bytes verdicts answer table′ bytes′ verdicts′) step-is taken-step
 
-        answer-is : answer ≡ andThen answerHere (Done (length (after (take words table) s)))
+        answer-is : answer ≡ andThen answerHere (Done (length (tableAfter (take words table) s)))
         answer-is =
             taken .answered
-            ∙ ap₂ (λ (a b : ℕ). andThen (stepAnswer (formulasOf rules counts) a b k x s) (Done (length (after (take words table) s)))) (r .same-table) (r .same-verdicts)
+            ∙ ap₂ (λ (a b : ℕ). andThen (stepAnswer (formulasOf rules counts) a b k x s) (Done (length (tableAfter (take words table) s)))) (r .same-table) (r .same-verdicts)
 
         -- it is refused
         module _ {m p : ℕ} (refused : answer ≡ Refused m p) where
           here-refused : answerHere ≡ Refused m p
           here-refused = go answerHere (sym answer-is ∙ refused)
             where
-              go : (a : Answer) → andThen a (Done (length (after (take words table) s))) ≡ Refused m p → a ≡ Refused m p
+              go : (a : Answer) → andThen a (Done (length (tableAfter (take words table) s))) ≡ Refused m p → a ≡ Refused m p
               go (Done q) e = absurd (true≢false (ap isDone e))
               go (Refused q o) e = e
 
@@ -194,11 +194,11 @@ module _ (rules counts steps : List ℕ) (words₀ : ℕ) (table₀ verdicts₀ 
           here-done : isDone answerHere ≡ true
           here-done = andThen-first answerHere _ (ap isDone (sym answer-is ∙ done))
 
-          words-are : value answer ≡ length (after (take words table) s)
+          words-are : value answer ≡ length (tableAfter (take words table) s)
           words-are = ap value (answer-is ∙ andThen-passed answerHere _ here-done)
 
           abbrev next : List ℕ
-          next = after (take words table) s
+          next = tableAfter (take words table) s
 
           abbrev vs : List ℕ
           vs = verdictBytes (formulasOf rules counts) (rows next)
@@ -225,7 +225,7 @@ module _ (rules counts steps : List ℕ) (words₀ : ℕ) (table₀ verdicts₀ 
               ∙ ap (drop (length vs)) (r .ahead)
               ∙ drop-drop (length vs) (n * k) verdicts₀ ∙ ap (λ (j : ℕ). drop j verdicts₀) (sym one-more)
 
-          stands : Standing rules counts (k + 1) (value answer) table′ bytes′ verdicts′
+          stands : BeforeStep rules counts (k + 1) (value answer) table′ bytes′ verdicts′
           stands = record {
             set-accepted = r .standing .set-accepted;
             table-accepted = subst (λ (u : List ℕ). acceptedTable u ≡ true) (sym table-now)
@@ -273,21 +273,28 @@ module _ (rules counts pool : List ℕ) (words : ℕ) {x a : Answer} (x-is : x �
     begin-fits h = ap (λ (b : Bool). unless b 17 (Done 0)) (sym (le-leb (length pool) words h)) ∙ begin-room
 
 module _ (rules counts pool steps table verdicts : List ℕ) {a : Answer} (a-is : a ≡ beginAnswer rules counts pool (length table)) where
-  abbrev runAll : Run
-  runAll = trialRun rules counts pool steps (length table) (length verdicts)
+  abbrev outcome : Outcome
+  outcome = trialOutcome rules counts pool steps (length table) (length verdicts)
 
   abbrev Tells : Trial → List ℕ → List ℕ → Type 0
   Tells trial table′ verdicts′ =
-      (trial ≡ trialOf runAll) × (TableLeft (beginAnswer rules counts pool (length table)) runAll table table′ × (verdicts′ ≡ verdictsLeft runAll verdicts))
+      (trial ≡ trialAnswer rules counts pool steps (length table) (length verdicts))
+      × (TableLeft rules counts pool steps (length verdicts) table table′ × (verdicts′ ≡ verdictsOut rules counts pool steps (length table) verdicts))
 
   pub trial-refused : {m p : ℕ} → a ≡ Refused m p → Tells (record { number = m; place = p; steps = 0; rows = 0 }) table verdicts
-  trial-refused {m} {p} e = subst (λ (z : Answer). Says z) (sym e ∙ a-is) (refl, (record { same-length = refl; working = refl; untouched = λ q. refl }, refl))
+  unfolding trialAnswer verdictsOut
+  trial-refused {m} {p} e = (
+    ap returnedBy (sym whole),
+    (record { same-length = refl; working = empty; untouched = λ q. refl }, ap (λ (z : Outcome). appendedBy z verdicts) (sym whole)),
+  )
     where
-      whole : Answer → Run
-      whole z = cond (isDone z) (run (formulasOf rules counts) (length table) (length verdicts) 0 (given pool) (stepsOf steps)) (record { answer = z; steps = 0; state = given [] })
+      whole : outcome ≡ record { answer = Refused m p; steps = 0; state = nothingDone }
+      whole =
+          ap (λ (z : Answer). cond (isDone z) (trySteps (formulasOf rules counts) (length table) (length verdicts) 0 (given pool) (stepsOf steps))
+          (record { answer = z; steps = 0; state = nothingDone })) (sym a-is ∙ e)
 
-      Says : Answer → Type 0
-      Says z = (record { number = m; place = p; steps = 0; rows = 0 } ≡ trialOf (whole z)) × (TableLeft z (whole z) table table × (verdicts ≡ verdictsLeft (whole z) verdicts))
+      empty : take (length (outcome .state .table)) table ≡ outcome .state .table
+      empty = subst (λ (z : Outcome). take (length (z .state .table)) table ≡ z .state .table) (sym whole) refl
 
   module _ {m : ℕ} (e : a ≡ Done m) where
     begun : isDone (beginAnswer rules counts pool (length table)) ≡ true
@@ -321,22 +328,23 @@ module _ (rules counts pool steps table verdicts : List ℕ) {a : Answer} (a-is 
         words-inside = omega (arith, pool-fits, same-room);
       }
 
-      run-is : runFrom rules counts steps (length pool) table₁ verdicts ≡ runAll
+      run-is : outcomeFrom rules counts steps (length pool) table₁ verdicts ≡ outcome
       run-is =
-          ap₂ (λ (w : ℕ) (u : List ℕ). run (formulasOf rules counts) w (length verdicts) 0 (given u) (stepsOf steps)) same-room pool-there
-          ∙ sym (ap (λ (b : Bool). cond b (run (formulasOf rules counts) (length table) (length verdicts) 0 (given pool) (stepsOf steps))
-          (record { answer = beginAnswer rules counts pool (length table); steps = 0; state = given [] })) begun)
+          ap₂ (λ (w : ℕ) (u : List ℕ). trySteps (formulasOf rules counts) w (length verdicts) 0 (given u) (stepsOf steps)) same-room pool-there
+          ∙ sym (ap (λ (b : Bool). cond b (trySteps (formulasOf rules counts) (length table) (length verdicts) 0 (given pool) (stepsOf steps))
+          (record { answer = beginAnswer rules counts pool (length table); steps = 0; state = nothingDone })) begun)
 
       pub trial-done : {trial : Trial} {table′ verdicts′ : List ℕ} → Ran rules counts steps (length pool) table₁ verdicts trial table′ verdicts′
           → Tells trial table′ verdicts′
+      unfolding trialAnswer verdictsOut
       trial-done {table′ = table′} r = (
-        r .returned ∙ ap trialOf run-is,
+        r .returned ∙ ap returnedBy run-is,
         (
           record {
             same-length = r .same-length ∙ same-room;
-            working = subst (λ (z : Run). take (length (z .state .table)) table′ ≡ z .state .table) run-is (r .working);
+            working = subst (λ (z : Outcome). take (length (z .state .table)) table′ ≡ z .state .table) run-is (r .working);
             untouched = λ q. absurd (true≢false (sym begun ∙ q));
           },
-          r .appended ∙ ap (λ (z : Run). verdictsLeft z verdicts) run-is,
+          r .appended ∙ ap (λ (z : Outcome). appendedBy z verdicts) run-is,
         ),
       )

@@ -16,7 +16,7 @@ use Rattle.logic.specs.Formulas.{formula, formulasOf}
 use Rattle.logic.specs.Verdict.{verdict, verdictBytes}
 use Rattle.engine.specs.Places.{fresh}
 use Rattle.engine.specs.Ready.{verdictAt}
-use Rattle.engine.specs.Trying.{Judged}
+use Rattle.engine.specs.Trying.{RestThere}
 use Rattle.engine.specs.declared.bindings.Bindings.{Bindings}
 use Rattle.engine.proofs.Answered.{start-number}
 
@@ -26,8 +26,8 @@ one-small false = omega arith
 
 -- ---- a rule's byte
 module _ (rule pool : List ℕ) (rule-ok : acceptedRule rule ≡ true) (pool-ok : acceptedTable pool ≡ true) {b : Bindings} (b-is : b ≡ fresh) where
-  pub judged-byte : {v : Bool} → v ≡ verdictAt rule pool b 0 → {n : ℕ} → n ≡ one v → n ≡ one (verdict (formula rule) (rows pool))
-  judged-byte v-is n-is = start-number rule pool rule-ok pool-ok b-is v-is n-is
+  pub asked-byte : {v : Bool} → v ≡ verdictAt rule pool b 0 → {n : ℕ} → n ≡ one v → n ≡ one (verdict (formula rule) (rows pool))
+  asked-byte v-is n-is = start-number rule pool rule-ok pool-ok b-is v-is n-is
 
 module _ (rules counts pool asked out₀ : List ℕ) where
   abbrev bytesFrom : ℕ → List ℕ
@@ -55,7 +55,7 @@ module _ (rules counts pool asked out₀ : List ℕ) where
       pub write-rule : acceptedRule rule ≡ true
       write-rule = subst (λ (r : List ℕ). acceptedRule r ≡ true) (sym rule-is) (each-accepted rules counts set-ok i h)
 
-      pub write-there : Judged rules counts pool asked out₀ → getD asked i 0 ≡ 0 → getD out i 0 ≡ one (verdict (formula rule) (rows pool))
+      pub write-there : RestThere rules counts pool asked out₀ → getD asked i 0 ≡ 0 → getD out i 0 ≡ one (verdict (formula rule) (rows pool))
       write-there there e = w .ahead i (omega arith) ∙ there i h e ∙ ap (λ (r : List ℕ). one (verdict (formula r) (rows pool))) (sym rule-is)
 
       pub write-more : {n : ℕ} → n ≡ one (verdict (formula rule) (rows pool)) → {end : ℕ} → end ≡ before + entriesOf counts i → Writes (set out i n) (i + 1) end

@@ -1,27 +1,26 @@
 -- Steps of a trial: one law for each way through the code, over plain variables. Assumes nothing.
-use Prim.Native.Nat.{ℕ, zero, suc, _+_, _-_, _*_, _<_, _≤_}
-use native.Mathlib.Numerals.{add-one}
+use Prim.Native.Nat.{ℕ, _+_, _-_, _*_, _<_, _≤_}
 use native.Mathlib.Omega.{arith}
 use mathlib.Core.Path.{_≡_, refl, sym, ap, ap₂, subst, _∙_}
-use mathlib.Core.Bool.{Bool, true, false, not, cond, _&&_, _||_, true≢false}
-use mathlib.Core.List.{List, [], _∷_, _++_, map}
+use mathlib.Core.Bool.{Bool, true, false, _&&_, _||_, true≢false}
+use mathlib.Core.List.{List, [], _++_}
 use lib.ListN.{length, getD, take, drop, set, replicate, length-append, length-replicate, getD-replicate}
 use lib.Seq.{sets, sets-eq, length-sets, length-take-le, take-append-seam, getD-take}
 use lib.Dec.{eqb, ltb, leb}
-use borrow.Author.Tests.{le-leb, lt-leb, leb-true, ltb-true, ltb-false, eqb-true, eqb-false, eq-eqb, ne-eqb}
-use Rattle.base.proofs.Bools.{either, and-left, and-right, or-cases, or-left, or-right}
+use borrow.Author.Tests.{le-leb, lt-leb, leb-true, ltb-true, ltb-false, eqb-false, eq-eqb, ne-eqb}
+use Rattle.base.proofs.Bools.{either, and-left, and-right, or-left, or-right}
 use Rattle.base.proofs.Copies.{Copying, copy-more}
-use Rattle.tables.specs.Answers.{number, value, isDone, andThen, unless, fitting, output}
+use Rattle.tables.specs.Answers.{value, isDone, andThen, unless, fitting, output}
 use Rattle.tables.specs.Words.{rowWords, rowAt, rowCount, rows}
 use Rattle.tables.specs.Rules.{one}
-use Rattle.tables.specs.Tables.{rowLimit, checkTable, acceptedTable}
+use Rattle.tables.specs.Tables.{rowLimit, checkTable}
 use Rattle.tables.specs.declared.Answer.{Answer}
 use Rattle.tables.specs.declared.Answer.the-variants.{Done, Refused}
 use Rattle.tables.proofs.Answers.{unless-ok, andThen-first, andThen-next, andThen-passed}
 use Rattle.tables.proofs.Accepted.{whole-rows, few-rows}
 use Rattle.sets.specs.Sets.{setLimit, ruleAt, acceptedSet}
 use Rattle.sets.proofs.Sets.{counts-fit, set-few}
-use Rattle.plans.specs.Plans.{stepWords, kindOf, removing, stepRow, placeFor, stepPlace, after, changeAnswer, changed, changeOut}
+use Rattle.plans.specs.Plans.{stepWords, kindOf, stepRow, placeFor, stepPlace, tableAfter, changeAnswer, changed, changeOut}
 use Rattle.plans.specs.declared.Change.{Change}
 use Rattle.plans.proofs.Splices.{passed-place, step-words, step-placed}
 use Rattle.plans.proofs.Changes.{row-there, place-after, after-long, remove-adds-none}
@@ -32,7 +31,7 @@ use Rattle.logic.specs.Trial.{State, atStep, fits, stepped, stepAnswer}
 use Rattle.logic.proofs.Calls.{verdict-count, verdict-byte}
 use Rattle.logic.proofs.Kept.{kept-removed, kept-other}
 use Rattle.engine.specs.Touching.{Touched}
-use Rattle.engine.specs.Trying.{byteAt, Judged, AllAsked, stateOf, Last, Standing, Changed, roomAnswer, Taken}
+use Rattle.engine.specs.Trying.{byteAt, RestThere, AllAsked, stateOf, BeforeStep, Changed, roomAnswer, Taken}
 
 -- ---- words copied to the start
 pub copy-from-start : (h out₀ out : List ℕ) (i : ℕ) → Copying h out₀ 0 out i → i < length h → Copying h out₀ 0 (set out i (getD h i 0)) (i + 1)
@@ -77,7 +76,7 @@ module _ (rules counts t next s : List ℕ) (row : ℕ) (first : Bool) (bytes : 
   pub other-inside : (kindOf s ≡ 3 → ⊥) → row < rowCount next
   other-inside e =
       subst (λ (u : List ℕ). row < rowCount u) (sym (w .next-is))
-      (subst (λ (p : ℕ). p < rowCount (after t s)) (sym row-is) (place-after t s (whole-rows t (w .table-accepted)) passed (ne-eqb (kindOf s) 3 e)))
+      (subst (λ (p : ℕ). p < rowCount (tableAfter t s)) (sym row-is) (place-after t s (whole-rows t (w .table-accepted)) passed (ne-eqb (kindOf s) 3 e)))
 
   module _ (asked : List ℕ) (all : first ≡ true → AllAsked counts asked) where
     pub asked-sized : length asked ≡ setLimit → length counts ≤ length asked
@@ -85,17 +84,17 @@ module _ (rules counts t next s : List ℕ) (row : ℕ) (first : Bool) (bytes : 
 
     -- a byte that isn't asked for is the one of the table before, and that of the table after
     stays : ((i : ℕ) → i < length counts → getD asked i 0 ≡ 0
-        → verdict (formula (ruleAt rules counts i)) (rows t) ≡ verdict (formula (ruleAt rules counts i)) (rows (after t s)))
-        → Judged rules counts next asked bytes
+        → verdict (formula (ruleAt rules counts i)) (rows t) ≡ verdict (formula (ruleAt rules counts i)) (rows (tableAfter t s)))
+        → RestThere rules counts next asked bytes
     stays same i h e = either first
         (λ q. absurd (all q i h e))
         (λ q. w .last q i h ∙ ap one (same i h e) ∙ ap (λ (u : List ℕ). byteAt rules counts u i) (sym (w .next-is)))
 
-    pub stay-removed : kindOf s ≡ 3 → Touched rules counts t row asked (length counts) → Judged rules counts next asked bytes
+    pub stay-removed : kindOf s ≡ 3 → Touched rules counts t row asked (length counts) → RestThere rules counts next asked bytes
     stay-removed e told = stays (λ i h z. kept-removed t s (w .table-accepted) passed (formula (ruleAt rules counts i)) (eq-eqb (kindOf s) 3 e)
         (ap (λ (p : ℕ). reached (formula (ruleAt rules counts i)) (rows t) (rowAt t p)) (sym row-is) ∙ told .missed i h z))
 
-    pub stay-other : (kindOf s ≡ 3 → ⊥) → Touched rules counts next row asked (length counts) → Judged rules counts next asked bytes
+    pub stay-other : (kindOf s ≡ 3 → ⊥) → Touched rules counts next row asked (length counts) → RestThere rules counts next asked bytes
     stay-other e told = stays (λ i h z. kept-other t s (w .table-accepted) passed (formula (ruleAt rules counts i)) (ne-eqb (kindOf s) 3 e)
         (ap₂ (λ (p : ℕ) (u : List ℕ). reached (formula (ruleAt rules counts i)) (rows u) (rowAt u p)) (sym row-is) (sym (w .next-is)) ∙ told .missed i h z))
 
@@ -165,7 +164,7 @@ nextWords = rowWords * rowLimit + rowWords
 abbrev noWords : List ℕ
 noWords = replicate nextWords 0
 
-module _ (rules counts : List ℕ) (k words : ℕ) (s table bytes verdicts : List ℕ) (w : Standing rules counts k words table bytes verdicts) where
+module _ (rules counts : List ℕ) (k words : ℕ) (s table bytes verdicts : List ℕ) (w : BeforeStep rules counts k words table bytes verdicts) where
   abbrev t : List ℕ
   t = take words table
 
@@ -176,28 +175,28 @@ module _ (rules counts : List ℕ) (k words : ℕ) (s table bytes verdicts : Lis
   x = stateOf n k words table verdicts
 
   abbrev answerOf : Answer
-  answerOf = andThen (stepAnswer (formulasOf rules counts) (length table) (length verdicts) k x s) (Done (length (after t s)))
+  answerOf = andThen (stepAnswer (formulasOf rules counts) (length table) (length verdicts) k x s) (Done (length (tableAfter t s)))
 
   -- what comes behind 23 to 25
   abbrev behind-25 : Answer
-  behind-25 = andThen (checkTable (after t s)) (unless (fits (stepped (formulasOf rules counts) x s) (length table) (length verdicts)) 17 (Done k))
+  behind-25 = andThen (checkTable (tableAfter t s)) (unless (fits (stepped (formulasOf rules counts) x s) (length table) (length verdicts)) 17 (Done k))
 
   -- the private table takes the table after any step
-  next-room : isDone (stepPlace t s) ≡ true → length (after t s) ≤ nextWords
+  next-room : isDone (stepPlace t s) ≡ true → length (tableAfter t s) ≤ nextWords
   next-room passed =
       let long = after-long t s (whole-rows t (w .table-accepted)) passed in
       omega (arith, long, whole-rows t (w .table-accepted), few-rows t (w .table-accepted))
 
-  change-is : changeAnswer t s nextWords ≡ andThen (stepPlace t s) (Done (length (after t s)))
+  change-is : changeAnswer t s nextWords ≡ andThen (stepPlace t s) (Done (length (tableAfter t s)))
   change-is = go (stepPlace t s) refl
     where
-      go : (a : Answer) → stepPlace t s ≡ a → andThen a (fitting (after t s) nextWords) ≡ andThen a (Done (length (after t s)))
+      go : (a : Answer) → stepPlace t s ≡ a → andThen a (fitting (tableAfter t s) nextWords) ≡ andThen a (Done (length (tableAfter t s)))
       go (Done p) e =
-          ap (λ (b : Bool). unless b 17 (Done (length (after t s)))) (le-leb (length (after t s)) nextWords (next-room (ap isDone e)))
+          ap (λ (b : Bool). unless b 17 (Done (length (tableAfter t s)))) (le-leb (length (tableAfter t s)) nextWords (next-room (ap isDone e)))
       go (Refused m p) e = refl
 
   module _ {change : Change} (change-of : change ≡ changed t s nextWords) where
-    found-is : change .answer ≡ andThen (stepPlace t s) (Done (length (after t s)))
+    found-is : change .answer ≡ andThen (stepPlace t s) (Done (length (tableAfter t s)))
     found-is = ap (λ (c : Change). c .answer) change-of ∙ change-is
 
     -- what a refused step leaves
@@ -214,12 +213,12 @@ module _ (rules counts : List ℕ) (k words : ℕ) (s table bytes verdicts : Lis
     -- 23 to 25
     pub step-refused : {m p : ℕ} → change .answer ≡ Refused m p → Taken rules counts k words s table bytes verdicts (Refused m k) table bytes verdicts
     unfolding stepAnswer
-    step-refused {m} {p} e = refused-by (ap (λ (a : Answer). andThen (atStep k (andThen a behind-25)) (Done (length (after t s)))) (sym place-is)) refl
+    step-refused {m} {p} e = refused-by (ap (λ (a : Answer). andThen (atStep k (andThen a behind-25)) (Done (length (tableAfter t s)))) (sym place-is)) refl
       where
         place-is : stepPlace t s ≡ Refused m p
         place-is = first-refused (stepPlace t s) (sym found-is ∙ e)
           where
-            first-refused : (a : Answer) → andThen a (Done (length (after t s))) ≡ Refused m p → a ≡ Refused m p
+            first-refused : (a : Answer) → andThen a (Done (length (tableAfter t s))) ≡ Refused m p → a ≡ Refused m p
             first-refused (Done q) h = absurd (true≢false (ap isDone h))
             first-refused (Refused q r) h = h
 
@@ -227,37 +226,37 @@ module _ (rules counts : List ℕ) (k words : ℕ) (s table bytes verdicts : Lis
       passed-it : isDone (stepPlace t s) ≡ true
       passed-it = andThen-first (stepPlace t s) _ (ap isDone (sym found-is ∙ found))
 
-      long-is : long ≡ length (after t s)
+      long-is : long ≡ length (tableAfter t s)
       long-is = ap value (sym found ∙ found-is ∙ andThen-passed (stepPlace t s) _ passed-it)
 
-      next-begins : next ≡ after t s ++ drop (length (after t s)) noWords
+      next-begins : next ≡ tableAfter t s ++ drop (length (tableAfter t s)) noWords
       next-begins =
           next-of
-          ∙ ap (λ (r : ℕ). output (changeAnswer t s r) (after t s) noWords) (length-replicate {A = ℕ} nextWords 0)
-          ∙ ap (λ (a : Answer). output a (after t s) noWords) (change-is ∙ andThen-passed (stepPlace t s) _ passed-it)
+          ∙ ap (λ (r : ℕ). output (changeAnswer t s r) (tableAfter t s) noWords) (length-replicate {A = ℕ} nextWords 0)
+          ∙ ap (λ (a : Answer). output a (tableAfter t s) noWords) (change-is ∙ andThen-passed (stepPlace t s) _ passed-it)
 
-      pub after-is : take long next ≡ after t s
-      after-is = ap₂ take long-is next-begins ∙ take-append-seam (after t s) (drop (length (after t s)) noWords)
+      pub after-is : take long next ≡ tableAfter t s
+      after-is = ap₂ take long-is next-begins ∙ take-append-seam (tableAfter t s) (drop (length (tableAfter t s)) noWords)
 
       pub long-inside : long ≤ length next
-      long-inside = omega (arith, long-is, ap length next-begins, length-append (after t s) (drop (length (after t s)) noWords))
+      long-inside = omega (arith, long-is, ap length next-begins, length-append (tableAfter t s) (drop (length (tableAfter t s)) noWords))
 
       -- then 8 to 12 and 17
-      answer-is : answerOf ≡ andThen (roomAnswer n k (length table) (length verdicts) (take long next)) (Done (length (after t s)))
+      answer-is : answerOf ≡ andThen (roomAnswer n k (length table) (length verdicts) (take long next)) (Done (length (tableAfter t s)))
       unfolding stepAnswer
       answer-is =
-          ap (λ (a : Answer). andThen (atStep k a) (Done (length (after t s)))) (andThen-passed (stepPlace t s) _ passed-it)
-          ∙ ap (λ (m : ℕ). andThen (atStep k (andThen (checkTable (after t s)) (unless (leb (length (after t s)) (length table) && leb m (length verdicts)) 17 (Done k)))) (Done (length (after t s)))) many-bytes
-          ∙ ap (λ (u : List ℕ). andThen (roomAnswer n k (length table) (length verdicts) u) (Done (length (after t s)))) (sym after-is)
+          ap (λ (a : Answer). andThen (atStep k a) (Done (length (tableAfter t s)))) (andThen-passed (stepPlace t s) _ passed-it)
+          ∙ ap (λ (m : ℕ). andThen (atStep k (andThen (checkTable (tableAfter t s)) (unless (leb (length (tableAfter t s)) (length table) && leb m (length verdicts)) 17 (Done k)))) (Done (length (tableAfter t s)))) many-bytes
+          ∙ ap (λ (u : List ℕ). andThen (roomAnswer n k (length table) (length verdicts) u) (Done (length (tableAfter t s)))) (sym after-is)
         where
-          many-bytes : length (x .verdicts ++ verdictBytes (formulasOf rules counts) (rows (after t s))) ≡ n * k + n
+          many-bytes : length (x .verdicts ++ verdictBytes (formulasOf rules counts) (rows (tableAfter t s))) ≡ n * k + n
           many-bytes =
-              length-append (take (n * k) verdicts) (verdictBytes (formulasOf rules counts) (rows (after t s)))
-              ∙ ap₂ _+_ (length-take-le (n * k) verdicts (w .bytes-inside)) (verdict-count rules counts (rows (after t s)))
+              length-append (take (n * k) verdicts) (verdictBytes (formulasOf rules counts) (rows (tableAfter t s)))
+              ∙ ap₂ _+_ (length-take-le (n * k) verdicts (w .bytes-inside)) (verdict-count rules counts (rows (tableAfter t s)))
 
       module _ {a : Answer} (a-is : a ≡ roomAnswer n k (length table) (length verdicts) (take long next)) where
         pub room-refuses : {m p : ℕ} → a ≡ Refused m p → Taken rules counts k words s table bytes verdicts (Refused m p) table bytes verdicts
-        room-refuses e = refused-by (ap (λ (z : Answer). andThen z (Done (length (after t s)))) (sym e ∙ a-is) ∙ sym answer-is) refl
+        room-refuses e = refused-by (ap (λ (z : Answer). andThen z (Done (length (tableAfter t s)))) (sym e ∙ a-is) ∙ sym answer-is) refl
 
         module _ {m : ℕ} (fits-it : a ≡ Done m) where
           room-done : isDone (roomAnswer n k (length table) (length verdicts) (take long next)) ≡ true
@@ -295,15 +294,15 @@ module _ (rules counts : List ℕ) (k words : ℕ) (s table bytes verdicts : Lis
               → verdicts′ ≡ sets verdicts (n * k) (verdictBytes (formulasOf rules counts) (rows (take long next)))
               → Taken rules counts k words s table bytes verdicts (Done long) table′ bytes′ verdicts′
           step-taken {table′} {bytes′} {verdicts′} table-is bytes-is verdicts-is = record {
-            answered = ap Done long-is ∙ ap (λ (z : Answer). andThen z (Done (length (after t s)))) (sym fits-it ∙ a-is) ∙ sym answer-is;
+            answered = ap Done long-is ∙ ap (λ (z : Answer). andThen z (Done (length (tableAfter t s)))) (sym fits-it ∙ a-is) ∙ sym answer-is;
             same-table = ap length table-is ∙ length-sets table 0 (take long next);
             same-bytes = ap length bytes-is ∙ length-sets bytes 0 (verdictBytes (formulasOf rules counts) (rows (take long next)));
             same-verdicts = ap length verdicts-is ∙ length-sets verdicts (n * k) (verdictBytes (formulasOf rules counts) (rows (take long next)));
             refused = λ q. absurd (true≢false q);
             done = λ q. (
-              ap (take (length (after t s))) (table-is ∙ ap (sets table 0) after-is) ∙ first-bytes table (after t s) (omega (arith, room-there .0, ap length after-is)),
+              ap (take (length (tableAfter t s))) (table-is ∙ ap (sets table 0) after-is) ∙ first-bytes table (tableAfter t s) (omega (arith, room-there .0, ap length after-is)),
               verdicts-is ∙ ap (λ (u : List ℕ). sets verdicts (n * k) (verdictBytes (formulasOf rules counts) (rows u))) after-is,
-              byte-is rules counts (after t s) bytes few-bytes (bytes-is ∙ ap (λ (u : List ℕ). sets bytes 0 (verdictBytes (formulasOf rules counts) (rows u))) after-is),
+              byte-is rules counts (tableAfter t s) bytes few-bytes (bytes-is ∙ ap (λ (u : List ℕ). sets bytes 0 (verdictBytes (formulasOf rules counts) (rows u))) after-is),
             );
           }
             where

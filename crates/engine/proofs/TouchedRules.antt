@@ -5,10 +5,10 @@ use native.Mathlib.Omega.{arith}
 use mathlib.Core.Path.{_≡_, refl, sym, ap, subst, _∙_}
 use mathlib.Core.Logic.{⊎-elim}
 use mathlib.Core.Bool.{Bool, true, false}
-use mathlib.Core.List.{List, []}
+use mathlib.Core.List.{List}
 use lib.ListN.{length, getD, set, replicate, length-set, length-replicate}
 use lib.Seq.{getD-set-same, getD-set-other}
-use Rattle.tables.specs.Words.{rowAt, rowCount, rows}
+use Rattle.tables.specs.Words.{rowAt, rows}
 use Rattle.tables.specs.Rules.{one, acceptedRule}
 use Rattle.tables.specs.Tables.{acceptedTable}
 use Rattle.sets.specs.Sets.{setLimit, entriesOf, ruleAt, acceptedSet}

@@ -1,25 +1,25 @@
 -- The way from a row up to its root, as the code notes it, and the row on it that a quantifier reaches. Assumes nothing.
-use Prim.Native.Nat.{ℕ, zero, suc, _+_, _-_, _<_, _≤_}
+use Prim.Native.Nat.{ℕ, suc, _+_, _-_, _<_, _≤_}
 use mathlib.Core.Path.{_≡_, refl, sym, ap, ap₂, subst, _∙_}
 use mathlib.Core.Logic.{_⊎_, inl, inr, ⊎-elim}
 use mathlib.Core.Bool.{Bool, true, false, not, cond, true≢false}
 use mathlib.Core.List.{List}
 use native.Mathlib.Nat.{eq-or-lt-of-le}
-use native.Mathlib.Numerals.{add-one, sub-one}
+use native.Mathlib.Numerals.{add-one}
 use native.Mathlib.Omega.{arith}
-use lib.ListN.{length, getD, set, replicate, length-set, length-replicate, getD-replicate, List·getD-eq-default}
+use lib.ListN.{length, getD, set, replicate, length-set, getD-replicate, List·getD-eq-default}
 use lib.Seq.{getD-set-same, getD-set-other}
 use lib.Dec.{ltb, eqb}
-use borrow.Author.Tests.{lt-ltb, le-ltb, ltb-true, ltb-false, eqb-true, eqb-false, eq-eqb, ne-eqb, not-true, not-false}
+use borrow.Author.Tests.{lt-ltb, ltb-true, ltb-false, eqb-true, eqb-false, eq-eqb, ne-eqb, not-true, not-false}
 use Rattle.base.proofs.Bools.{either}
 use Rattle.tables.specs.Words.{rowAt, rowCount}
 use Rattle.tables.specs.Rules.{nestingLimit}
-use Rattle.tables.specs.Tables.{rowLimit, root, isParent, acceptedTable}
+use Rattle.tables.specs.Tables.{root, isParent, acceptedTable}
 use Rattle.tables.specs.declared.Row.{Row}
 use Rattle.tables.specs.declared.Entry.{Entry}
-use Rattle.tables.proofs.Accepted.{ordered, few-rows, has-parent, behind}
+use Rattle.tables.proofs.Accepted.{ordered, has-parent, behind}
 use Rattle.tables.proofs.Ordered as tables
-use Rattle.engine.specs.Touching.{OnWay, own, up, noted, WayUp, depthUnder, depthOf, Lands}
+use Rattle.engine.specs.Touching.{OnWay, own, up, notedOnWay, WayUp, depthUnder, depthOf, Lands}
 use Rattle.engine.specs.declared.touching.Way.{Way}
 
 -- ---- the row above: it is not behind the rows looked at
@@ -73,12 +73,12 @@ module _ (t : List ℕ) (row : ℕ) where
 
 -- one more row is noted
 module _ (t : List ℕ) (w : Way) (i deep : ℕ) (sized : length (w .place) ≡ nestingLimit) where
-  pub noted-sized : length (noted w i deep .place) ≡ nestingLimit
+  pub noted-sized : length (notedOnWay w i deep .place) ≡ nestingLimit
   noted-sized = either (ltb deep nestingLimit)
       (λ e. rw e (length-set (w .place) deep (i + 1) ∙ sized))
       (λ e. rw e sized)
 
-  pub noted-within : i < rowCount t → ((d : ℕ) → getD (w .place) d 0 ≤ rowCount t) → (d : ℕ) → getD (noted w i deep .place) d 0 ≤ rowCount t
+  pub noted-within : i < rowCount t → ((d : ℕ) → getD (w .place) d 0 ≤ rowCount t) → (d : ℕ) → getD (notedOnWay w i deep .place) d 0 ≤ rowCount t
   noted-within h f d = either (ltb deep nestingLimit)
       (λ e. rw e (either (eqb d deep)
       (λ q. rw (eqb-true d deep q, getD-set-same (w .place) deep (i + 1) 0 (omega (arith, ltb-true deep nestingLimit e, sized))) (omega arith))
@@ -86,11 +86,11 @@ module _ (t : List ℕ) (w : Way) (i deep : ℕ) (sized : length (w .place) ≡ 
       (λ e. rw e (f d))
 
   -- it has its place at its depth
-  pub noted-here : deep < nestingLimit → getD (noted w i deep .place) deep 0 ≡ suc i
+  pub noted-here : deep < nestingLimit → getD (notedOnWay w i deep .place) deep 0 ≡ suc i
   noted-here h = rw (lt-ltb deep nestingLimit h) (getD-set-same (w .place) deep (i + 1) 0 (omega (arith, sized)) ∙ add-one i)
 
   -- and all others stay
-  pub noted-other : (d : ℕ) → (d ≡ deep → ⊥) → getD (noted w i deep .place) d 0 ≡ getD (w .place) d 0
+  pub noted-other : (d : ℕ) → (d ≡ deep → ⊥) → getD (notedOnWay w i deep .place) d 0 ≡ getD (w .place) d 0
   noted-other d apart = either (ltb deep nestingLimit)
       (λ e. rw e (getD-set-other (w .place) deep d (i + 1) 0 apart))
       (λ e. rw e)
@@ -100,7 +100,7 @@ abbrev pub noneNoted : ℕ → Way
 noneNoted row = record { row = row; place = replicate nestingLimit 0 }
 
 module _ (t : List ℕ) (ok : acceptedTable t ≡ true) (row : ℕ) where
-  pub climb-begin : row < rowCount t → {r : Row} → r ≡ rowAt t row → {w : Way} → w ≡ noted (noneNoted row) row (r .deep) → Climbed t row w row
+  pub climb-begin : row < rowCount t → {r : Row} → r ≡ rowAt t row → {w : Way} → w ≡ notedOnWay (noneNoted row) row (r .deep) → Climbed t row w row
   climb-begin h r-is w-is = rw (w-is, r-is) (record {
     from-row = same-row (ltb (rowAt t row .deep) nestingLimit);
     inside = h;
@@ -120,7 +120,7 @@ module _ (t : List ℕ) (ok : acceptedTable t ≡ true) (row : ℕ) where
       same-row false = refl
 
       below : (j : ℕ) → OnWay t row j
-          → ((rowAt t row .deep ≤ rowAt t j .deep) × Noted t row (noted (noneNoted row) row (rowAt t row .deep) .place) j) ⊎ Above t row row j
+          → ((rowAt t row .deep ≤ rowAt t j .deep) × Noted t row (notedOnWay (noneNoted row) row (rowAt t row .deep) .place) j) ⊎ Above t row row j
       below j own = inl (omega arith, λ l. noted-here t (noneNoted row) row (rowAt t row .deep) refl l)
       below j (up h e on) = inr (_, h, e, on)
 
@@ -136,7 +136,7 @@ module _ (t : List ℕ) (ok : acceptedTable t ≡ true) (row : ℕ) where
       deeper : rowAt t i .deep ≡ rowAt t p .deep + 1
       deeper = tables.child-depth t (ordered t ok) p i p-inside (c .inside) (p-is .1)
 
-      pub climb-more : {q : Row} → q ≡ rowAt t p → {w′ : Way} → w′ ≡ noted w p (q .deep) → Climbed t row w′ p
+      pub climb-more : {q : Row} → q ≡ rowAt t p → {w′ : Way} → w′ ≡ notedOnWay w p (q .deep) → Climbed t row w′ p
       climb-more q-is w-is = rw (w-is, q-is) (record {
         from-row = same-row (ltb (rowAt t p .deep) nestingLimit) ∙ c .from-row;
         inside = p-inside;
@@ -155,7 +155,7 @@ module _ (t : List ℕ) (ok : acceptedTable t ≡ true) (row : ℕ) where
           only : (q : ℕ) → q < rowCount t → isParent (rowAt t i) (rowAt t q) ≡ true → q ≡ p
           only q h e = tables.one-parent t (tables.placed t (ordered t ok)) q p i h p-inside e (p-is .1)
 
-          further : (j : ℕ) → OnWay t p j → ((rowAt t p .deep ≤ rowAt t j .deep) × Noted t row (noted w p (rowAt t p .deep) .place) j) ⊎ Above t row p j
+          further : (j : ℕ) → OnWay t p j → ((rowAt t p .deep ≤ rowAt t j .deep) × Noted t row (notedOnWay w p (rowAt t p .deep) .place) j) ⊎ Above t row p j
           further j own = inl (omega arith, λ l. noted-here t w p (rowAt t p .deep) (c .sized) l)
           further j (up h e on) = inr (_, h, e, on)
 

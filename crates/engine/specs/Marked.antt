@@ -7,12 +7,13 @@ use lib.ListN.{getD, set}
 use lib.Dec.{eqb}
 use Rattle.base.specs.Lists.{any, concatMap}
 use Rattle.tables.specs.Words.{rowAt, rows, entryAt, entryCount}
+use Rattle.tables.specs.Tables.{sameRow}
 use Rattle.tables.specs.Rules.{around}
 use Rattle.tables.specs.declared.Row.{Row}
 use Rattle.tables.specs.declared.Entry.{Entry}
 use Rattle.logic.specs.Formulas.{Connective, and, or, implies, formulaAt}
 use Rattle.logic.specs.Verdict as meaning
-use Rattle.logic.specs.Marks.{sameRow, reason, decides}
+use Rattle.logic.specs.Marks.{reason, decides}
 use Rattle.engine.specs.Ready.{quantifierOf, meant, rangesAt, rangedFrom, bodyAt}
 use Rattle.engine.specs.declared.bindings.Bindings.{Bindings}
 

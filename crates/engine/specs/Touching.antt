@@ -2,7 +2,7 @@
 -- contracts need not believe it. Assumes nothing.
 use Prim.Native.Nat.{ℕ, zero, suc, _+_, _<_, _≤_}
 use mathlib.Core.Path.{_≡_}
-use mathlib.Core.Bool.{Bool, true, false, cond}
+use mathlib.Core.Bool.{true, false, cond}
 use mathlib.Core.List.{List}
 use lib.ListN.{length, getD, set}
 use lib.Dec.{ltb}
@@ -24,8 +24,8 @@ pub data OnWay (t : List ℕ) : ℕ → ℕ → Type 0 where
   up : {i p j : ℕ} → p < rowCount t → isParent (rowAt t i) (rowAt t p) ≡ true → OnWay t p j → OnWay t i j
 
 -- a row noted by its depth
-abbrev pub noted : Way → ℕ → ℕ → Way
-noted w i deep = cond (ltb deep nestingLimit) (record { row = w .row; place = set (w .place) deep (i + 1) }) w
+abbrev pub notedOnWay : Way → ℕ → ℕ → Way
+notedOnWay w i deep = cond (ltb deep nestingLimit) (record { row = w .row; place = set (w .place) deep (i + 1) }) w
 
 -- the rows on the way from a row are noted
 pub record WayUp (t : List ℕ) (row : ℕ) (places : List ℕ) : Type 0 where
@@ -52,7 +52,7 @@ pub record Lands (t : List ℕ) (row : ℕ) (places : List ℕ) (e : Entry) (pla
       → rowAt t i .name ≡ e .c → place ≡ suc i
 
 -- ---- an entry
--- a variable whose quantifier reaches a row on the way has that row's place, and isn't outside of it
+-- a variable whose quantifier reaches a row on the way has that row's place, and the row isn't deeper than the variable's number
 abbrev pub Known : List ℕ → ℕ → Chains → Bindings → Type 0
 Known t row K b =
     (v i : ℕ) → v < b .depth → OnWay t row i → i < rowCount t → any (λ x. true) (K v (rowAt t i)) ≡ true

@@ -1,4 +1,4 @@
-// Verdict and marks of a rule on a pool.
+// Verdict and marks of a rule on a pool, the verdicts of a set, and trying a plan.
 mod bindings;
 mod calls;
 mod certain;

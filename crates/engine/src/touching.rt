@@ -17,7 +17,7 @@ ghost use Rattle.tables.specs.Rules.{nestingLimit};
 ghost use Rattle.tables.specs.Tables.{rowLimit, root, isParent, acceptedTable};
 ghost use Rattle.sets.specs.Sets.{acceptedSet};
 ghost use Rattle.engine.specs.Ready.{Placed, Ready};
-ghost use Rattle.engine.specs.Touching.{noted, WayUp, depthOf, Lands, Misses, Touched};
+ghost use Rattle.engine.specs.Touching.{notedOnWay, WayUp, depthOf, Lands, Misses, Touched};
 
 // The row that a row hangs under.
 fn parent_of(pool: &[u32], row: usize) -> usize
@@ -40,10 +40,10 @@ pub(crate) struct Way {
 }
 
 impl Way {
-    // Notes a row on the way. One that is deeper isn't noted: no quantifier reaches it.
+    // Notes a row on the way. Deeper than quantifiers nest it isn't noted: none reaches it.
     fn with(mut self, row: usize, deep: usize) -> Self
         requires { ⌜ (row < rowLimit) × (length (self .place) ≡ nestingLimit) ⌝ }
-        ensures { λ w. ⌜ w ≡ noted self row deep ⌝ }
+        ensures { λ w. ⌜ w ≡ notedOnWay self row deep ⌝ }
     {
         if deep < Bindings::LIMIT {
             self.place[deep] = (row + 1) as u16;

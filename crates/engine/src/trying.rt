@@ -12,22 +12,22 @@ use tables::Answer;
 use tables::ROW_WORDS;
 use tables::TABLE_WORDS;
 use tables::check_table;
+use tables::value_of;
 ghost use mathlib.Core.Path.{_≡_};
-ghost use mathlib.Core.Bool.{true, false};
+ghost use mathlib.Core.Bool.{true};
 ghost use Prim.Native.Nat.{_+_, _*_, _<_, _≤_};
 ghost use lib.ListN.{length, take};
 ghost use lib.Seq.{sets};
 ghost use lib.Dec.{eqb};
-ghost use Rattle.tables.specs.Answers.{value};
 ghost use Rattle.tables.specs.Words.{rowCount, rows};
 ghost use Rattle.tables.specs.Tables.{acceptedTable};
 ghost use Rattle.sets.specs.Sets.{acceptedSet};
 ghost use Rattle.plans.specs.Plans.{stepWords};
 ghost use Rattle.logic.specs.Formulas.{formulasOf};
 ghost use Rattle.logic.specs.Verdict.{verdictBytes};
-ghost use Rattle.logic.specs.Trial.{trialRun, trialOf, verdictsLeft, beginAnswer, TableLeft};
+ghost use Rattle.logic.specs.Trial.{beginAnswer, trialAnswer, TableLeft, verdictsOut};
 ghost use Rattle.engine.specs.Touching.{Touched};
-ghost use Rattle.engine.specs.Trying.{AllAsked, roomAnswer, Changed, Standing, Taken, StepEnd, Begun, Ran};
+ghost use Rattle.engine.specs.Trying.{AllAsked, roomAnswer, Changed, BeforeStep, Taken, StepEnd, Begun, Ran};
 
 // Room for one row more than a table has: the table after a step may be refused with 8.
 const NEXT_WORDS: usize = TABLE_WORDS + ROW_WORDS;
@@ -75,8 +75,9 @@ fn asked_rules(
     touched_rules(rules, counts, pool, row)
 }
 
-// Brings the bytes of the rules up to the table after a step whose row is there or, if it is removed, was in the table before.
-fn judge(
+// Brings the rules' bytes from a table to the table after a step. The step's row is in the table after or, if it is removed, in the one
+// before.
+fn bring_up(
     rules: &[u32],
     counts: &[u32],
     table: &[u32],
@@ -98,16 +99,16 @@ fn judge(
     write_verdicts(rules, counts, next, &asked, bytes);
 }
 
-// 8 to 12 of the table after step k, and 17 for a working table of `words` words and verdicts of `bytes` bytes, n for each step.
-fn check_room(next: &[u32], n: usize, k: usize, words: usize, bytes: usize) -> Answer
-    requires { ⌜ n * k ≤ bytes ⌝ }
-    ensures { λ a. ⌜ a ≡ roomAnswer n k words bytes (now (next .entry)) ⌝ }
+// 8 to 12 of the table after step k, and 17 for a table buffer of `room` words and a verdict buffer of `space` bytes, n for each step.
+fn check_room(next: &[u32], n: usize, k: usize, room: usize, space: usize) -> Answer
+    requires { ⌜ n * k ≤ space ⌝ }
+    ensures { λ a. ⌜ a ≡ roomAnswer n k room space (now (next .entry)) ⌝ }
 {
     let checked = check_table(next);
     if let Answer::Refused { number, place } = checked {
         return Answer::Refused { number, place: k };
     }
-    if (words < next.len()) | (bytes - n * k < n) {
+    if (room < next.len()) | (space - n * k < n) {
         return Answer::Refused {
             number: 17,
             place: k,
@@ -137,7 +138,7 @@ fn take_step(
     ensures { λ _. ⌜ now (verdicts .exit) ≡ sets (now (verdicts .entry)) (length (now (counts .entry)) * k) (verdictBytes (formulasOf (now (rules .entry)) (now (counts .entry))) (rows (now (next .entry)))) ⌝ }
 {
     let n = counts.len();
-    judge(
+    bring_up(
         rules,
         counts,
         &table[..words],
@@ -151,7 +152,7 @@ fn take_step(
     copy_words(table, next);
 }
 
-// Tries step k on a working table of that many words: the words of the table after it, or the refusal. The bytes are the last step's.
+// Tries step k on a working table of that many words: how many the table after it has, or the refusal. The bytes are the last step's.
 fn try_step(
     rules: &[u32],
     counts: &[u32],
@@ -162,7 +163,7 @@ fn try_step(
     bytes: &mut [u8],
     verdicts: &mut [u8],
 ) -> Answer
-    requires { ⌜ Standing (now rules) (now counts) k words (now table) (now bytes) (now verdicts) ⌝ }
+    requires { ⌜ BeforeStep (now rules) (now counts) k words (now table) (now bytes) (now verdicts) ⌝ }
     ensures { λ a. ⌜ Taken (now (rules .entry)) (now (counts .entry)) k words (now (step .entry)) (now (table .entry)) (now (bytes .entry)) (now (verdicts .entry)) a (now (table .exit)) (now (bytes .exit)) (now (verdicts .exit)) ⌝ }
 {
     let mut next = [0u32; NEXT_WORDS];
@@ -204,16 +205,6 @@ fn step_end(steps: &[u32], k: usize) -> usize
     start + STEP_WORDS
 }
 
-// The value of an accepted call.
-fn value_of(answer: Answer) -> usize
-    ensures { λ r. ⌜ r ≡ value answer ⌝ }
-{
-    match answer {
-        Answer::Done(n) => n,
-        Answer::Refused { number, place } => 0,
-    }
-}
-
 // Tries one step after the other on a working table of that many words.
 fn run_steps(
     rules: &[u32],
@@ -226,7 +217,7 @@ fn run_steps(
     requires { ⌜ Begun (now rules) (now counts) held (now table) ⌝ }
     ensures { λ r. ⌜ Ran (now (rules .entry)) (now (counts .entry)) (now (steps .entry)) held (now (table .entry)) (now (verdicts .entry)) r (now (table .exit)) (now (verdicts .exit)) ⌝ }
 {
-    let count = (steps.len() + ROW_WORDS) / STEP_WORDS;
+    let count = (steps.len() + (STEP_WORDS - 1)) / STEP_WORDS;
     let mut bytes = [0u8; SET_LIMIT];
     let mut words = held;
     let mut k = 0;
@@ -252,15 +243,15 @@ fn run_steps(
     }
 }
 
-// The refusals before step 0, for a working table of that many words.
-fn begin(rules: &[u32], counts: &[u32], pool: &[u32], words: usize) -> Answer
-    ensures { λ a. ⌜ a ≡ beginAnswer (now (rules .entry)) (now (counts .entry)) (now (pool .entry)) words ⌝ }
+// The refusals before step 0, for a table buffer of that many words.
+fn begin(rules: &[u32], counts: &[u32], pool: &[u32], room: usize) -> Answer
+    ensures { λ a. ⌜ a ≡ beginAnswer (now (rules .entry)) (now (counts .entry)) (now (pool .entry)) room ⌝ }
 {
     let answer = then_table(check_set(rules, counts), pool);
     if let Answer::Refused { number, place } = answer {
         return Answer::Refused { number, place };
     }
-    if words < pool.len() {
+    if room < pool.len() {
         return Answer::Refused {
             number: 17,
             place: 0,
@@ -279,9 +270,9 @@ pub fn try_plan(
     table: &mut [u32],
     verdicts: &mut [u8],
 ) -> Trial
-    ensures trial { λ r. ⌜ r ≡ trialOf (trialRun (now (rules .entry)) (now (counts .entry)) (now (pool .entry)) (now (steps .entry)) (length (now (table .entry))) (length (now (verdicts .entry)))) ⌝ }
-    ensures table { λ _. ⌜ TableLeft (beginAnswer (now (rules .entry)) (now (counts .entry)) (now (pool .entry)) (length (now (table .entry)))) (trialRun (now (rules .entry)) (now (counts .entry)) (now (pool .entry)) (now (steps .entry)) (length (now (table .entry))) (length (now (verdicts .entry)))) (now (table .entry)) (now (table .exit)) ⌝ }
-    ensures verdicts { λ _. ⌜ now (verdicts .exit) ≡ verdictsLeft (trialRun (now (rules .entry)) (now (counts .entry)) (now (pool .entry)) (now (steps .entry)) (length (now (table .entry))) (length (now (verdicts .entry)))) (now (verdicts .entry)) ⌝ }
+    ensures trial { λ r. ⌜ r ≡ trialAnswer (now (rules .entry)) (now (counts .entry)) (now (pool .entry)) (now (steps .entry)) (length (now (table .entry))) (length (now (verdicts .entry))) ⌝ }
+    ensures table { λ _. ⌜ TableLeft (now (rules .entry)) (now (counts .entry)) (now (pool .entry)) (now (steps .entry)) (length (now (verdicts .entry))) (now (table .entry)) (now (table .exit)) ⌝ }
+    ensures verdicts { λ _. ⌜ now (verdicts .exit) ≡ verdictsOut (now (rules .entry)) (now (counts .entry)) (now (pool .entry)) (now (steps .entry)) (length (now (table .entry))) (now (verdicts .entry)) ⌝ }
 {
     let answer = begin(rules, counts, pool, table.len());
     if let Answer::Refused { number, place } = answer {

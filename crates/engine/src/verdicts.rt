@@ -13,7 +13,7 @@ ghost use Rattle.tables.specs.Tables.{acceptedTable};
 ghost use Rattle.sets.specs.Sets.{acceptedSet};
 ghost use Rattle.logic.specs.Formulas.{formula, formulasOf};
 ghost use Rattle.logic.specs.Verdict.{verdict, verdictBytes};
-ghost use Rattle.engine.specs.Trying.{Judged};
+ghost use Rattle.engine.specs.Trying.{RestThere};
 
 // The number of a verdict.
 pub(crate) fn one_if(verdict: bool) -> usize
@@ -23,7 +23,7 @@ pub(crate) fn one_if(verdict: bool) -> usize
 }
 
 // The byte of a rule: the one that it has, unless it is asked for.
-fn judged(rule: &[u32], pool: &[u32], asked: u8, byte: u8) -> u8
+fn byte_of(rule: &[u32], pool: &[u32], asked: u8, byte: u8) -> u8
     requires { ⌜ (acceptedRule (now rule) ≡ true) × (acceptedTable (now pool) ≡ true) ⌝ }
     requires { ⌜ (asked ≡ 0 → byte ≡ one (verdict (formula (now rule)) (rows (now pool)))) ⌝ }
     ensures { λ r. ⌜ r ≡ one (verdict (formula (now (rule .entry))) (rows (now (pool .entry)))) ⌝ }
@@ -44,7 +44,7 @@ pub(crate) fn write_verdicts(
 )
     requires { ⌜ (acceptedSet (now rules) (now counts) ≡ true) × (acceptedTable (now pool) ≡ true) ⌝ }
     requires { ⌜ (length (now counts) ≤ length (now out)) × (length (now counts) ≤ length (now asked)) ⌝ }
-    requires { ⌜ Judged (now rules) (now counts) (now pool) (now asked) (now out) ⌝ }
+    requires { ⌜ RestThere (now rules) (now counts) (now pool) (now asked) (now out) ⌝ }
     ensures { λ _. ⌜ now (out .exit) ≡ sets (now (out .entry)) 0 (verdictBytes (formulasOf (now (rules .entry)) (now (counts .entry))) (rows (now (pool .entry)))) ⌝ }
 {
     let mut before = 0;
@@ -52,7 +52,7 @@ pub(crate) fn write_verdicts(
     while i < counts.len() {
         let end = before + counts[i] as usize;
         let rule = &rules[ENTRY_WORDS * before..ENTRY_WORDS * end];
-        out[i] = judged(rule, pool, asked[i], out[i]);
+        out[i] = byte_of(rule, pool, asked[i], out[i]);
         before = end;
         i += 1;
     }

@@ -11,7 +11,7 @@ ghost use Rattle.tables.specs.Files.{readRule, readRuleOut, readPool, readPoolO
 ghost use Rattle.logic.specs.Verdict.{verdictAnswer, setVerdictsAnswer, setVerdictsOut};
 ghost use Rattle.logic.specs.Marks.{marksAnswer, marksOut};
 ghost use Rattle.logic.specs.Parts.{partAnswer, partOut, setPartAnswer, setPartOut};
-ghost use Rattle.logic.specs.Trial.{beginAnswer, trialRun, trialOf, verdictsLeft, TableLeft};
+ghost use Rattle.logic.specs.Trial.{trialAnswer, TableLeft, verdictsOut};
 ghost use Rattle.checker.specs.Files.{filesAnswer, returned};
 ghost use Rattle.checker.specs.Report.{reportLength, reportOut};
 ghost use Rattle.entry.specs.Interface.{answered, spanned};
@@ -177,9 +177,9 @@ pub extern "C" fn gabzeril_try(
     table: &mut [u32],
     verdicts: &mut [u8],
 ) -> Trial
-    ensures trial { λ r. ⌜ r ≡ trialOf (trialRun (now (rules .entry)) (now (counts .entry)) (now (pool .entry)) (now (steps .entry)) (length (now (table .entry))) (length (now (verdicts .entry)))) ⌝ }
-    ensures table { λ _. ⌜ TableLeft (beginAnswer (now (rules .entry)) (now (counts .entry)) (now (pool .entry)) (length (now (table .entry)))) (trialRun (now (rules .entry)) (now (counts .entry)) (now (pool .entry)) (now (steps .entry)) (length (now (table .entry))) (length (now (verdicts .entry)))) (now (table .entry)) (now (table .exit)) ⌝ }
-    ensures verdicts { λ _. ⌜ now (verdicts .exit) ≡ verdictsLeft (trialRun (now (rules .entry)) (now (counts .entry)) (now (pool .entry)) (now (steps .entry)) (length (now (table .entry))) (length (now (verdicts .entry)))) (now (verdicts .entry)) ⌝ }
+    ensures trial { λ r. ⌜ r ≡ trialAnswer (now (rules .entry)) (now (counts .entry)) (now (pool .entry)) (now (steps .entry)) (length (now (table .entry))) (length (now (verdicts .entry))) ⌝ }
+    ensures table { λ _. ⌜ TableLeft (now (rules .entry)) (now (counts .entry)) (now (pool .entry)) (now (steps .entry)) (length (now (verdicts .entry))) (now (table .entry)) (now (table .exit)) ⌝ }
+    ensures verdicts { λ _. ⌜ now (verdicts .exit) ≡ verdictsOut (now (rules .entry)) (now (counts .entry)) (now (pool .entry)) (now (steps .entry)) (length (now (table .entry))) (now (verdicts .entry)) ⌝ }
 {
     engine::try_plan(rules, counts, pool, steps, table, verdicts)
 }

@@ -11,7 +11,7 @@ use Rattle.base.proofs.Lists.{concatMap-sub, map-same, map-sub, sub-in, sub-one
 use Rattle.tables.specs.Words.{rowAt, rowsFrom, rows}
 use Rattle.tables.specs.Answers.{fitting, output}
 use Rattle.tables.specs.Rules.{one, acceptedRule}
-use Rattle.tables.specs.Tables.{acceptedTable}
+use Rattle.tables.specs.Tables.{sameRow, acceptedTable}
 use Rattle.tables.specs.Joining.{joinTables, joinAnswer}
 use Rattle.tables.specs.declared.Row.{Row}
 use Rattle.tables.specs.declared.Answer.the-variants.{Done}
@@ -22,7 +22,7 @@ use Rattle.tables.proofs.Proper.{rows-proper}
 use Rattle.tables.proofs.RowLists.{row-in, row-out}
 use Rattle.logic.specs.Formulas.{Formula, formula, formulasOf}
 use Rattle.logic.specs.Verdict.{verdict, verdictAnswer, verdictBytes}
-use Rattle.logic.specs.Marks.{sameRow, marked}
+use Rattle.logic.specs.Marks.{marked}
 use Rattle.logic.specs.Parts.{wordsOf, spareForEach}
 use Rattle.logic.specs.Demand.{Device, IsCut, Sends, dump, join, taken, Given, InPlace, SameVerdicts, MarksKept, Claim}
 use Rattle.logic.proofs.Words.{words-rows}

@@ -8,13 +8,13 @@ use borrow.Author.Tests.{eq-eqb, ne-eqb}
 use Rattle.base.specs.Lists.{_∈_, select, concatMap}
 use Rattle.base.proofs.Lists.{select-in, select-append, select-all, select-none, concatMap-in, concatMap-out, any-at, any-hit, sub-in}
 use Rattle.tables.specs.Words.{rows}
-use Rattle.tables.specs.Tables.{isParent}
+use Rattle.tables.specs.Tables.{sameRow, isParent}
 use Rattle.tables.specs.declared.Row.{Row}
 use Rattle.tables.proofs.Accepted.{parent-device, parent-at}
 use Rattle.tables.proofs.Proper.{Key, rising-key, Proper, root-alone}
 use Rattle.logic.specs.Formulas.{Formula}
 use Rattle.logic.specs.Verdict.{noneBound, verdict}
-use Rattle.logic.specs.Marks.{reason, sameRow, marked}
+use Rattle.logic.specs.Marks.{reason, marked}
 use Rattle.logic.specs.Parts.{noChains, spare}
 use Rattle.logic.specs.Demand.{Device, Under, under-parent, under-above, Cut}
 use Rattle.logic.proofs.Sound.{ofDevice, owned}

@@ -1,21 +1,23 @@
 -- A step of a plan leaves the verdict of a formula none of whose quantifiers reaches the step's row. Assumes nothing.
-use Prim.Native.Nat.{ℕ, suc, _*_}
-use mathlib.Core.Path.{_≡_, refl, sym, ap, ap₂, subst, _∙_}
+use Prim.Native.Nat.{ℕ, _*_}
+use mathlib.Core.Path.{_≡_, refl, sym, ap, subst, _∙_}
 use mathlib.Core.Bool.{Bool, true, false, _&&_, true≢false}
-use mathlib.Core.List.{List, [], _∷_, _++_}
+use mathlib.Core.List.{List, _∷_, _++_}
 use lib.ListN.{length}
-use Rattle.base.specs.Lists.{_∈_, put, select}
+use Rattle.base.specs.Lists.{put, select}
+use Rattle.base.proofs.Bools.{either}
 use Rattle.base.proofs.Lists.{select-append}
 use Rattle.tables.specs.Answers.{isDone}
 use Rattle.tables.specs.Words.{rowWords, rowAt, rowCount, rows}
 use Rattle.tables.specs.Tables.{acceptedTable}
 use Rattle.tables.specs.declared.Row.{Row}
 use Rattle.tables.proofs.Accepted.{whole-rows}
-use Rattle.plans.specs.Plans.{setting, adding, removing, stepRow, placeFor, stepPlace, withValue, upTo, fromRow, after}
-use Rattle.plans.proofs.Changes.{rows-split, rows-with, rows-without, row-with, rows-at, place-low, after-set, after-add, after-remove, by-kind, row-there, set-adds-none, remove-adds-none}
+use Rattle.plans.specs.Plans.{removing, stepRow, placeFor, stepPlace, withValue, tableAfter}
+use Rattle.plans.proofs.Changes.{by-kind, set-adds-none, remove-adds-none, front, behind-it, from-it, rows-before, rows-around, rows-set, rows-add, rows-remove, row-set, row-add}
 use Rattle.logic.specs.Formulas.{Formula, Over, roots, under}
 use Rattle.logic.specs.Verdict.{Place, nothing, bound, Bindings, named, hangs, ranges, verdict}
 use Rattle.logic.specs.Parts.{reached}
+use Rattle.logic.specs.Trial.{UnreachedKept}
 use Rattle.logic.proofs.Untouched.{Alike, verdict-same}
 
 -- a quantifier does not look at values
@@ -52,59 +54,40 @@ module _ (t s : List ℕ) (ok : acceptedTable t ≡ true) (passed : isDone (step
   whole : length t ≡ rowWords * rowCount t
   whole = whole-rows t ok
 
-  abbrev A : List Row
-  A = rows (upTo place t)
-
-  abbrev C : List Row
-  C = rows (fromRow (suc place) t)
-
-  -- the row set
-  abbrev newRow : Row
-  newRow = withValue (stepRow s .value) (rowAt t place)
-
-  split-at : adding s ≡ false → rows t ≡ A ++ (rowAt t place ∷ C)
-  split-at e = rows-split t whole place (place-low t s) ∙ ap (λ (B : List Row). A ++ B) (rows-at t whole place (row-there t s passed e))
+  -- by the rows before and after
+  alike : {r : Row} {T T′ : List Row} → rows t ≡ T → rows (tableAfter t s) ≡ T′ → Alike r T T′ → Alike r (rows t) (rows (tableAfter t s))
+  alike {r} {T} {T′} e f same =
+      subst (λ (X : List Row). Alike r X (rows (tableAfter t s))) (sym e) (subst (λ (X : List Row). Alike r T X) (sym f) same)
 
   module _ (F : Formula) where
-    kept-set : setting s ≡ true → reached F (rows (after t s)) (rowAt (after t s) place) ≡ false → verdict F (rows t) ≡ verdict F (rows (after t s))
-    kept-set e miss =
-        verdict-same newRow (rows (after t s)) (rows t) (rows (after t s)) alike (λ q m n. n) F (ap (reached F (rows (after t s))) (sym row-is) ∙ miss)
-      where
-        row-is : rowAt (after t s) place ≡ newRow
-        row-is = ap (λ (u : List ℕ). rowAt u place) (after-set t s e) ∙ row-with t whole place (place-low t s) newRow (suc place)
+    abbrev same-verdict : Type 0
+    same-verdict = verdict F (rows t) ≡ verdict F (rows (tableAfter t s))
 
-        alike : Alike newRow (rows t) (rows (after t s))
-        alike =
-            subst (λ (T : List Row). Alike newRow T (rows (after t s))) (sym (split-at (set-adds-none t s e)))
-            (subst (λ (T : List Row). Alike newRow (A ++ (rowAt t place ∷ C)) T)
-            (sym (ap rows (after-set t s e) ∙ rows-with t whole place (place-low t s) newRow (suc place)))
-            (alike-set A C (rowAt t place) (stepRow s .value)))
-
-    kept-add : adding s ≡ true → reached F (rows (after t s)) (rowAt (after t s) place) ≡ false → verdict F (rows t) ≡ verdict F (rows (after t s))
-    kept-add e miss =
-        verdict-same (stepRow s) (rows (after t s)) (rows t) (rows (after t s)) alike (λ q m n. n) F (ap (reached F (rows (after t s))) (sym row-is) ∙ miss)
-      where
-        row-is : rowAt (after t s) place ≡ stepRow s
-        row-is = ap (λ (u : List ℕ). rowAt u place) (after-add t s e) ∙ row-with t whole place (place-low t s) (stepRow s) place
-
-        alike : Alike (stepRow s) (rows t) (rows (after t s))
-        alike =
-            subst (λ (T : List Row). Alike (stepRow s) T (rows (after t s))) (sym (rows-split t whole place (place-low t s)))
-            (subst (λ (T : List Row). Alike (stepRow s) (A ++ rows (fromRow place t)) T)
-            (sym (ap rows (after-add t s e) ∙ rows-with t whole place (place-low t s) (stepRow s) place))
-            (alike-add A (rows (fromRow place t)) (stepRow s)))
+    -- from the row in the table after
+    from-after : {r : Row} → rowAt (tableAfter t s) place ≡ r → Alike r (rows t) (rows (tableAfter t s))
+        → reached F (rows (tableAfter t s)) (rowAt (tableAfter t s) place) ≡ false → same-verdict
+    from-after {r} row-is same miss =
+        verdict-same r (rows (tableAfter t s)) (rows t) (rows (tableAfter t s)) same (λ q m n. n) F (ap (reached F (rows (tableAfter t s))) (sym row-is) ∙ miss)
 
     -- of a removed row, in the table before
-    pub kept-removed : removing s ≡ true → reached F (rows t) (rowAt t place) ≡ false → verdict F (rows t) ≡ verdict F (rows (after t s))
-    kept-removed e miss = verdict-same (rowAt t place) (rows t) (rows t) (rows (after t s)) alike (λ q m n. m) F miss
+    pub kept-removed : removing s ≡ true → reached F (rows t) (rowAt t place) ≡ false → same-verdict
+    kept-removed e miss = verdict-same (rowAt t place) (rows t) (rows t) (rows (tableAfter t s)) same (λ q m n. m) F miss
       where
-        alike : Alike (rowAt t place) (rows t) (rows (after t s))
-        alike =
-            subst (λ (T : List Row). Alike (rowAt t place) T (rows (after t s))) (sym (split-at (remove-adds-none t s e)))
-            (subst (λ (T : List Row). Alike (rowAt t place) (A ++ (rowAt t place ∷ C)) T)
-            (sym (ap rows (after-remove t s e) ∙ rows-without t whole place (place-low t s) (suc place)))
-            (alike-remove A C (rowAt t place)))
+        same : Alike (rowAt t place) (rows t) (rows (tableAfter t s))
+        same = alike (rows-around t s whole passed (remove-adds-none t s e)) (rows-remove t s whole e)
+            (alike-remove (front t s whole) (behind-it t s whole) (rowAt t place))
 
     -- of a row set or added, in the table after
-    pub kept-other : removing s ≡ false → reached F (rows (after t s)) (rowAt (after t s) place) ≡ false → verdict F (rows t) ≡ verdict F (rows (after t s))
-    kept-other e miss = by-kind t s passed (λ q. kept-set q miss) (λ q. kept-add q miss) (λ q. absurd (true≢false (sym q ∙ e)))
+    pub kept-other : removing s ≡ false → reached F (rows (tableAfter t s)) (rowAt (tableAfter t s) place) ≡ false → same-verdict
+    kept-other e miss = by-kind t s passed
+        (λ q. from-after (row-set t s whole q)
+        (alike (rows-around t s whole passed (set-adds-none t s q)) (rows-set t s whole q)
+        (alike-set (front t s whole) (behind-it t s whole) (rowAt t place) (stepRow s .value))) miss)
+        (λ q. from-after (row-add t s whole q)
+        (alike (rows-before t s whole) (rows-add t s whole q) (alike-add (front t s whole) (from-it t s whole) (stepRow s))) miss)
+        (λ q. absurd (true≢false (sym q ∙ e)))
+
+pub unreached-kept : UnreachedKept
+unreached-kept t s ok passed F miss = either (removing s)
+    (λ e. kept-removed t s ok passed F e (rw e at miss))
+    (λ e. kept-other t s ok passed F e (rw e at miss))

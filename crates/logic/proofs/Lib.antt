@@ -24,3 +24,4 @@ pub mod Untouched
 pub mod Kept
 pub mod Runs
 pub mod Trials
+pub mod Removals

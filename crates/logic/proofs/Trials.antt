@@ -1,28 +1,30 @@
 -- Trying a plan: each claim about the run. Assumes nothing.
-use Prim.Native.Nat.{ℕ, zero, suc, _+_, _-_, _*_, _/_, _≤_, _<_}
+use Prim.Native.Nat.{ℕ, zero, suc, _+_, _*_, _≤_, _<_}
 use native.Mathlib.Nat.{eq-or-lt-of-le, min-le-right, mul-suc, mul-le-mul-left}
 use native.Mathlib.Omega.{arith}
 use mathlib.Core.Path.{_≡_, refl, sym, ap, ap₂, subst, _∙_}
 use mathlib.Core.Logic.{⊎-elim}
-use mathlib.Core.Bool.{Bool, true, false, cond, true≢false}
-use mathlib.Core.List.{List, [], _∷_, _++_, append-nil}
-use lib.ListN.{length, take, drop, length-append, length-take, length-drop, take-append-drop, drop-of-length-le}
+use mathlib.Core.Bool.{Bool, true, cond}
+use mathlib.Core.List.{List, [], _∷_, _++_}
+use lib.ListN.{length, take, drop, length-append, length-take, length-drop, take-append-drop}
 use lib.Seq.{take-all, take-append-le, drop-append-le, drop-at, take-add, length-take-le}
 use lib.Dec.{leb}
 use borrow.Author.Tests.{le-leb}
 use Rattle.tables.specs.Answers.{isDone, andThen, unless, fitting, output}
-use Rattle.tables.specs.Words.{rowWords, rows}
+use Rattle.base.proofs.Bools.{either}
+use Rattle.tables.specs.Words.{rowCount, rows}
 use Rattle.tables.specs.Tables.{checkTable, acceptedTable}
 use Rattle.tables.specs.declared.Answer.{Answer}
 use Rattle.tables.specs.declared.Answer.the-variants.{Done}
 use Rattle.tables.proofs.Answers.{andThen-first, andThen-next}
 use Rattle.sets.specs.Sets.{checkSet, acceptedSet}
-use Rattle.plans.specs.Plans.{stepWords, stepAt, stepsFrom, stepCount, stepsOf, stepPlace}
+use Rattle.plans.specs.Plans.{stepWords, stepAt, stepsFrom, stepCount, stepsOf, stepPlace, RowsAfter}
 use Rattle.plans.proofs.Splices.{passed-words}
+use Rattle.plans.proofs.Exactly.{only-that-row}
 use Rattle.logic.specs.Formulas.{Formula, formulasOf}
 use Rattle.logic.specs.Verdict.{verdictBytes, setVerdictsAnswer, setVerdictsOut}
 use Rattle.logic.specs.Demand.{Device, dump, taken, joinedParts, Claim}
-use Rattle.logic.specs.Trial.{State, given, stepAnswer, Run, run, beginAnswer, trialRun, stateAt, bytesOf, Dumped, Judged, Tried, Trials}
+use Rattle.logic.specs.Trial.{State, given, Outcome, trySteps, beginAnswer, nothingDone, trialOutcome, trialAnswer, stateAt, bytesOf, Dumped, SetWrites, Tried, Trials, ToldApart}
 use Rattle.logic.proofs.Calls.{verdict-count, verdicts-are, bytes-are}
 use Rattle.logic.proofs.Demand.{demand-3}
 use Rattle.logic.proofs.Runs.{accepted-after, step-passed, Does, Goes, goes, runs-through}
@@ -108,32 +110,34 @@ module _ (rules counts pool steps : List ℕ) where
           ∙ sym (first-of m (suc k) (omega arith)) ∙ verdicts-more k
 
   -- what the set's verdict call writes on an accepted table
-  judged : (t : List ℕ) → acceptedSet rules counts ≡ true → acceptedTable t ≡ true → Judged rules counts t (verdictBytes Fs (rows t))
-  judged t set-ok ok out e =
+  set-writes : (t : List ℕ) → acceptedSet rules counts ≡ true → acceptedTable t ≡ true → SetWrites rules counts t (verdictBytes Fs (rows t))
+  set-writes t set-ok ok out h =
       let v : List ℕ = verdictBytes Fs (rows t) in
       let long : length v ≡ n = verdict-count rules counts (rows t) in
-      let fits : fitting v (length out) ≡ Done (length v) = ap (λ (b : Bool). unless b 17 (Done (length v))) (le-leb (length v) (length out) (omega (arith, long, e))) in
-      let short : length out ≤ length v = omega (arith, long, e) in (
-        verdicts-are rules counts t set-ok ok (length out) ∙ fits ∙ ap Done long,
-        bytes-are rules counts t set-ok ok out ∙ ap (λ (a : Answer). output a v out) fits
-            ∙ ap (λ (zs : List ℕ). v ++ zs) (drop-of-length-le out short) ∙ append-nil v,
+      let fit : fitting v (length out) ≡ Done (length v) = ap (λ (b : Bool). unless b 17 (Done (length v))) (le-leb (length v) (length out) (omega (arith, long, h))) in (
+        verdicts-are rules counts t set-ok ok (length out) ∙ fit ∙ ap Done long,
+        bytes-are rules counts t set-ok ok out ∙ ap (λ (a : Answer). output a v out) fit ∙ ap (λ (m : ℕ). v ++ drop m out) long,
       )
 
 -- ---- the claims
+pub begun-set : (rules counts pool : List ℕ) (words : ℕ) → isDone (beginAnswer rules counts pool words) ≡ true → acceptedSet rules counts ≡ true
+unfolding beginAnswer
+begun-set rules counts pool words begun =
+    andThen-first (checkSet rules counts) (andThen (checkTable pool) (unless (leb (length pool) words) 17 (Done 0))) begun
+
 module _ (rules counts pool steps : List ℕ) (words bytes : ℕ) (begun : isDone (beginAnswer rules counts pool words) ≡ true) where
   abbrev behind : Answer
   behind = andThen (checkTable pool) (unless (leb (length pool) words) 17 (Done 0))
 
   set-ok : acceptedSet rules counts ≡ true
-  unfolding beginAnswer
-  set-ok = andThen-first (checkSet rules counts) behind begun
+  set-ok = begun-set rules counts pool words begun
 
   pool-ok : acceptedTable pool ≡ true
   unfolding beginAnswer
   pool-ok = andThen-first (checkTable pool) _ (andThen-next (checkSet rules counts) behind begun)
 
-  abbrev r : Run
-  r = run (formulasOf rules counts) words bytes 0 (given pool) (stepsOf steps)
+  abbrev r : Outcome
+  r = trySteps (formulasOf rules counts) words bytes 0 (given pool) (stepsOf steps)
 
   went : Goes (formulasOf rules counts) words bytes pool steps 0 (stepCount steps) r
   unfolding stateAt
@@ -148,13 +152,16 @@ module _ (rules counts pool steps : List ℕ) (words bytes : ℕ) (begun : isDon
   accepted (suc k) h = accepted-after (formulasOf rules counts) words bytes k (stateAt (formulasOf rules counts) pool steps k) (stepAt steps k) (each k (omega arith))
 
   as-dumped : (k : ℕ) → k < r .steps
-      → Judged rules counts (stateAt (formulasOf rules counts) pool steps (suc k) .table) (bytesOf (length counts) k r)
+      → SetWrites rules counts (stateAt (formulasOf rules counts) pool steps (suc k) .table) (bytesOf (length counts) k r)
   as-dumped k h out e =
-      let j = judged rules counts pool steps (stateAt (formulasOf rules counts) pool steps (suc k) .table) set-ok (accepted (suc k) (omega arith)) out e in (
-        j .0,
-        j .1 ∙ sym (ap (λ (x : State). take (length counts) (drop (length counts * k) (x .verdicts))) (went .left)
-            ∙ bytes-of-step rules counts pool steps (r .steps) k h),
-      )
+      let T = stateAt (formulasOf rules counts) pool steps (suc k) .table in
+      let w = set-writes rules counts pool steps T set-ok (accepted (suc k) (omega arith)) out e in
+      (w .0, w .1 ∙ ap (λ (vs : List ℕ). vs ++ drop (length counts) out) (sym bytes-here))
+    where
+      bytes-here : bytesOf (length counts) k r ≡ verdictBytes (formulasOf rules counts) (rows (stateAt (formulasOf rules counts) pool steps (suc k) .table))
+      bytes-here =
+          ap (λ (x : State). take (length counts) (drop (length counts * k) (x .verdicts))) (went .left)
+          ∙ bytes-of-step rules counts pool steps (r .steps) k h
 
   parts : (k : ℕ) → k ≤ r .steps → (ds : List Device)
       → Dumped (formulasOf rules counts) (stateAt (formulasOf rules counts) pool steps k .table) ds → Claim rules counts ds
@@ -167,7 +174,7 @@ module _ (rules counts pool steps : List ℕ) (words bytes : ℕ) (begun : isDon
 
   parts-judged : (k : ℕ) → k < r .steps → (ds : List Device)
       → Dumped (formulasOf rules counts) (stateAt (formulasOf rules counts) pool steps (suc k) .table) ds → taken [] ds ≡ ds
-      → Judged rules counts (joinedParts ds) (bytesOf (length counts) k r)
+      → SetWrites rules counts (joinedParts ds) (bytesOf (length counts) k r)
   parts-judged k h ds d all out e =
       let same = parts (suc k) (omega arith) ds d .same-verdicts out in
       let whole : dump (taken [] ds) ≡ stateAt (formulasOf rules counts) pool steps (suc k) .table = ap dump all ∙ d .dump-is in
@@ -176,32 +183,39 @@ module _ (rules counts pool steps : List ℕ) (words bytes : ℕ) (begun : isDon
         same .1 ∙ ap (λ (t : List ℕ). setVerdictsOut rules counts t out) whole ∙ j .1,
       )
 
+  -- what 23 to 25 let pass
+  passed-at : (k : ℕ) → k < r .steps → isDone (stepPlace (stateAt (formulasOf rules counts) pool steps k .table) (stepAt steps k)) ≡ true
+  passed-at k h = step-passed (formulasOf rules counts) words bytes k (stateAt (formulasOf rules counts) pool steps k) (stepAt steps k) (each k h)
+
+  one-row : (k : ℕ) → k < r .steps → RowsAfter (stateAt (formulasOf rules counts) pool steps k .table) (stepAt steps k)
+  one-row k h = only-that-row (stateAt (formulasOf rules counts) pool steps k .table) (stepAt steps k) (accepted k (omega arith)) (passed-at k h)
+
   -- a step that is done has its words
   words-there : (k : ℕ) → k ≤ r .steps → stepWords * k ≤ length steps
   words-there zero h = omega arith
   words-there (suc k) h =
-      let s = stepAt steps k in
-      let passed = step-passed (formulasOf rules counts) words bytes k (stateAt (formulasOf rules counts) pool steps k) s (each k (omega arith)) in
-      step-inside steps k (passed-words (stateAt (formulasOf rules counts) pool steps k .table) s passed)
+      step-inside steps k (passed-words (stateAt (formulasOf rules counts) pool steps k .table) (stepAt steps k) (passed-at k (omega arith)))
 
   first-steps : (k : ℕ) → k ≤ r .steps
-      → trialRun rules counts pool (take (stepWords * k) steps) words bytes
+      → trialOutcome rules counts pool (take (stepWords * k) steps) words bytes
       ≡ record { answer = Done k; steps = k; state = stateAt (formulasOf rules counts) pool steps k }
   unfolding stateAt
   first-steps k h =
       let z : 0 + k ≡ k = omega arith in
-      ap (λ (b : Bool). cond b (run (formulasOf rules counts) words bytes 0 (given pool) (stepsOf (take (stepWords * k) steps)))
-      (record { answer = beginAnswer rules counts pool words; steps = 0; state = given [] })) begun
-      ∙ ap (run (formulasOf rules counts) words bytes 0 (given pool)) (first-steps-are steps k (words-there k h))
+      ap (λ (b : Bool). cond b (trySteps (formulasOf rules counts) words bytes 0 (given pool) (stepsOf (take (stepWords * k) steps)))
+      (record { answer = beginAnswer rules counts pool words; steps = 0; state = nothingDone })) begun
+      ∙ ap (trySteps (formulasOf rules counts) words bytes 0 (given pool)) (first-steps-are steps k (words-there k h))
       ∙ runs-through (formulasOf rules counts) words bytes pool steps k 0 (λ j l g. each j (omega arith))
       ∙ ap (λ (j : ℕ). record { answer = Done j; steps = j; state = stateAt (formulasOf rules counts) pool steps j }) z
 
   tried : Tried rules counts pool steps words bytes r
   tried = record {
     left = went .left;
+    each-done = each;
     all-done = λ e. omega (arith, went .all-done e);
-    stopped = λ e. (went .stopped e .0, omega (arith, went .stopped e .1));
+    stopped = λ e. (went .stopped e .0, went .stopped e .1, omega (arith, went .stopped e .2));
     accepted = accepted;
+    one-row = one-row;
     as-dumped = as-dumped;
     parts = parts;
     parts-judged = parts-judged;
@@ -213,6 +227,18 @@ module _ (rules counts pool steps : List ℕ) (words bytes : ℕ) (begun : isDon
 pub trials : Trials
 trials rules counts pool steps words bytes begun =
     subst (Tried rules counts pool steps words bytes)
-    (sym (ap (λ (b : Bool). cond b (run (formulasOf rules counts) words bytes 0 (given pool) (stepsOf steps))
-    (record { answer = beginAnswer rules counts pool words; steps = 0; state = given [] })) begun))
+    (sym (ap (λ (b : Bool). cond b (trySteps (formulasOf rules counts) words bytes 0 (given pool) (stepsOf steps))
+    (record { answer = beginAnswer rules counts pool words; steps = 0; state = nothingDone })) begun))
     (tried rules counts pool steps words bytes begun)
+
+pub told-apart : ToldApart
+unfolding trialAnswer stateAt
+told-apart rules counts pool steps words bytes none = either (isDone (beginAnswer rules counts pool words))
+    (λ e.
+    let one = trials rules counts pool steps words bytes e in
+    ap (λ (x : State). rowCount (x .table)) (one .left ∙ ap (stateAt (formulasOf rules counts) pool steps) none) ∙ first-state (formulasOf rules counts) pool steps
+    ∙ sym (ap (λ (b : Bool). cond b (rowCount pool) 0) e))
+    (λ e. rw e)
+  where
+    first-state : (Fs : List Formula) (pool steps : List ℕ) → rowCount (stateAt Fs pool steps 0 .table) ≡ rowCount pool
+    first-state Fs pool steps = refl

@@ -1,15 +1,15 @@
 -- A row that no quantifier of a formula reaches: the verdict is the same on two tables that differ in that row alone. Assumes nothing.
 use Prim.Native.Nat.{ℕ, suc}
 use mathlib.Core.Path.{_≡_, refl, sym, ap, ap₂, subst, _∙_}
-use mathlib.Core.Bool.{Bool, true, false, not, cond, _&&_, _||_, true≢false}
-use mathlib.Core.List.{List, [], _∷_, _++_, map, List·Memᴰ·head, List·Memᴰ·tail}
+use mathlib.Core.Bool.{Bool, true, false, not, _&&_, true≢false}
+use mathlib.Core.List.{List, [], _∷_, map, List·Memᴰ·head, List·Memᴰ·tail}
 use lib.Dec.{eqb}
-use Rattle.base.specs.Lists.{_∈_, any, when, select, concatMap}
+use Rattle.base.specs.Lists.{_∈_, any, select}
 use Rattle.base.proofs.Bools.{either, and-left, and-right, or-left, or-right}
-use Rattle.base.proofs.Lists.{any-at, any-hit, concatMap-in, select-in, select-out, select-append}
-use Rattle.tables.specs.Tables.{root, isParent}
+use Rattle.base.proofs.Lists.{any-at, concatMap-in, select-in, select-out}
+use Rattle.tables.specs.Tables.{isParent}
 use Rattle.tables.specs.declared.Row.{Row}
-use Rattle.logic.specs.Formulas.{Formula, negation, joined, quantified, compared, Quantifier, every, some, Over, roots, under}
+use Rattle.logic.specs.Formulas.{Formula, negation, joined, quantified, compared, Quantifier, Over, roots, under}
 use Rattle.logic.specs.Verdict.{Place, nothing, bound, Bindings, noneBound, bind, named, hangs, ranges, connect, both, fold, holds, verdict}
 use Rattle.logic.specs.Parts.{Chains, noChains, chainsWith, reach, reachedIn, reached}
 

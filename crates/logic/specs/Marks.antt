@@ -1,14 +1,14 @@
 -- 01, Marks. Assumes nothing.
 use Prim.Native.Nat.{ℕ, suc}
-use mathlib.Core.Bool.{Bool, not, cond, _&&_}
+use mathlib.Core.Bool.{Bool, not, cond}
 use mathlib.Core.List.{List, [], _∷_, _++_, map}
 use lib.ListN.{length}
-use lib.Dec.{eqb, leb}
+use lib.Dec.{leb}
 use Rattle.base.specs.Lists.{select, any, concatMap}
 use Rattle.tables.specs.Answers.{andThen, unless, output}
 use Rattle.tables.specs.Words.{rows, rowCount}
 use Rattle.tables.specs.Rules.{one, checkRule}
-use Rattle.tables.specs.Tables.{checkTable}
+use Rattle.tables.specs.Tables.{sameRow, checkTable}
 use Rattle.tables.specs.declared.Row.{Row}
 use Rattle.tables.specs.declared.Answer.{Answer}
 use Rattle.tables.specs.declared.Answer.the-variants.{Done}
@@ -61,10 +61,6 @@ reason (quantified q o n φ) T d b =
     concatMap (λ r. r ∷ reason φ T (suc d) (bind d (bound r) b))
     (witnesses q (λ r. holds φ T (suc d) (bind d (bound r) b)) (select (ranges o n b) T))
 reason (compared c v w) T d b = rowOf (b v) ++ rowsOf b w
-
--- (device, at) identifies a row
-abbrev pub sameRow : Row → Row → Bool
-sameRow r s = eqb (r .device) (s .device) && eqb (r .at) (s .at)
 
 -- a row is marked if it is in the reason of the whole rule
 unfoldable pub marked : Formula → List Row → Row → Bool

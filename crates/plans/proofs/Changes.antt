@@ -1,13 +1,13 @@
 -- The rows of the table after a step: those before the step's row, and those behind it, are the table's. Assumes nothing.
-use Prim.Native.Nat.{ℕ, zero, suc, _+_, _-_, _*_, _≤_, _<_}
+use Prim.Native.Nat.{ℕ, suc, _+_, _-_, _*_, _≤_, _<_}
 use mathlib.Core.Logic.{⊎-elim}
 use mathlib.Core.Path.{_≡_, refl, sym, ap, ap₂, subst, _∙_}
-use mathlib.Core.Bool.{Bool, true, false, not, cond, _&&_, _||_, true≢false}
+use mathlib.Core.Bool.{Bool, true, false, not, cond, true≢false}
 use mathlib.Core.List.{List, [], _∷_, _++_}
 use native.Mathlib.Omega.{arith}
 use lib.ListN.{length, take, drop, length-append, length-drop, take-append-drop}
 use lib.Seq.{length-take-le, drop-drop}
-use lib.Dec.{eqb, ltb}
+use lib.Dec.{ltb}
 use borrow.Author.Tests.{eqb-true, ne-eqb, ltb-true}
 use Rattle.base.proofs.Bools.{and-left, and-right, or-cases}
 use Rattle.base.proofs.Search.{first-le}
@@ -16,8 +16,8 @@ use Rattle.tables.specs.Words.{rowWords, rowAt, rowCount, rowsFrom, rows, colum
 use Rattle.tables.specs.declared.Row.{Row}
 use Rattle.tables.proofs.Words.{row-left, row-right}
 use Rattle.tables.proofs.RowLists.{length-rows, rows-append}
-use Rattle.tables.specs.Tables.{isAbove}
-use Rattle.plans.specs.Plans.{kindOf, setting, adding, removing, stepRow, samePlace, placeFor, stepPlace, withValue, upTo, fromRow, afterSet, afterAdd, afterRemove, after}
+use Rattle.tables.specs.Tables.{sameRow, isAbove}
+use Rattle.plans.specs.Plans.{kindOf, setting, adding, removing, stepRow, placeFor, stepPlace, withValue, firstRows, fromRow, afterSet, afterAdd, afterRemove, tableAfter}
 use Rattle.plans.proofs.Splices.{passed-kind, passed-row}
 
 -- a table of one row
@@ -27,36 +27,36 @@ one-row t h = let e : rowCount t ≡ 1 = omega arith in ap (rowsFrom t 0) e
 
 module _ (t : List ℕ) (whole : length t ≡ rowWords * rowCount t) (p : ℕ) where
   module _ (h : p ≤ rowCount t) where
-    front-length : length (upTo p t) ≡ rowWords * p
+    front-length : length (firstRows p t) ≡ rowWords * p
     front-length = length-take-le (rowWords * p) t (omega arith)
 
-    front-whole : length (upTo p t) ≡ rowWords * rowCount (upTo p t)
+    front-whole : length (firstRows p t) ≡ rowWords * rowCount (firstRows p t)
     front-whole = omega (arith, front-length)
 
-    front-count : rowCount (upTo p t) ≡ p
+    front-count : rowCount (firstRows p t) ≡ p
     front-count = omega (arith, front-length)
 
     -- the rows before the place, and those from it on
     abbrev rowsBefore : List Row
-    rowsBefore = rows (upTo p t)
+    rowsBefore = rows (firstRows p t)
 
     pub rows-split : rows t ≡ rowsBefore ++ rows (fromRow p t)
-    rows-split = ap rows (sym (take-append-drop (rowWords * p) t)) ∙ rows-append (upTo p t) (fromRow p t) front-whole
+    rows-split = ap rows (sym (take-append-drop (rowWords * p) t)) ∙ rows-append (firstRows p t) (fromRow p t) front-whole
 
-    pub rows-with : (r : Row) (q : ℕ) → rows (upTo p t ++ (columnsOf r ++ fromRow q t)) ≡ rowsBefore ++ (r ∷ rows (fromRow q t))
+    pub rows-with : (r : Row) (q : ℕ) → rows (firstRows p t ++ (columnsOf r ++ fromRow q t)) ≡ rowsBefore ++ (r ∷ rows (fromRow q t))
     unfolding rowsFrom
     rows-with r q =
-        rows-append (upTo p t) (columnsOf r ++ fromRow q t) front-whole
+        rows-append (firstRows p t) (columnsOf r ++ fromRow q t) front-whole
         ∙ ap (λ (xs : List Row). rowsBefore ++ xs) (rows-append (columnsOf r) (fromRow q t) refl)
 
-    pub rows-without : (q : ℕ) → rows (upTo p t ++ fromRow q t) ≡ rowsBefore ++ rows (fromRow q t)
-    rows-without q = rows-append (upTo p t) (fromRow q t) front-whole
+    pub rows-without : (q : ℕ) → rows (firstRows p t ++ fromRow q t) ≡ rowsBefore ++ rows (fromRow q t)
+    rows-without q = rows-append (firstRows p t) (fromRow q t) front-whole
 
     -- the row at the place
-    pub row-with : (r : Row) (q : ℕ) → rowAt (upTo p t ++ (columnsOf r ++ fromRow q t)) p ≡ r
+    pub row-with : (r : Row) (q : ℕ) → rowAt (firstRows p t ++ (columnsOf r ++ fromRow q t)) p ≡ r
     row-with r q =
         let z : p ≡ p + 0 = omega arith in
-        ap (rowAt (upTo p t ++ (columnsOf r ++ fromRow q t))) z ∙ row-right (upTo p t) (columnsOf r ++ fromRow q t) p 0 front-length
+        ap (rowAt (firstRows p t ++ (columnsOf r ++ fromRow q t))) z ∙ row-right (firstRows p t) (columnsOf r ++ fromRow q t) p 0 front-length
         ∙ row-left (columnsOf r) (fromRow q t) 0 (omega arith)
 
   module _ (h : p < rowCount t) where
@@ -77,7 +77,7 @@ module _ (t : List ℕ) (whole : length t ≡ rowWords * rowCount t) (p : ℕ) w
         let z : p + 0 ≡ p = omega arith in
         sym (row-left (take rowWords rest) (drop rowWords rest) 0 (omega (arith, first-long)))
         ∙ ap (λ (x : List ℕ). rowAt x 0) (take-append-drop rowWords rest)
-        ∙ sym (row-right (upTo p t) rest p 0 (front-length low))
+        ∙ sym (row-right (firstRows p t) rest p 0 (front-length low))
         ∙ ap₂ rowAt (take-append-drop (rowWords * p) t) z
 
     behind : drop rowWords rest ≡ fromRow (suc p) t
@@ -97,18 +97,18 @@ module _ (t s : List ℕ) where
   pub place-low : place ≤ rowCount t
   place-low = first-le (λ i. not (isAbove (stepRow s) (rowAt t i))) (rowCount t)
 
-  pub after-set : setting s ≡ true → after t s ≡ afterSet place (stepRow s .value) t
-  unfolding after
+  pub after-set : setting s ≡ true → tableAfter t s ≡ afterSet place (stepRow s .value) t
+  unfolding tableAfter
   after-set e = ap (λ (b : Bool). cond b (afterSet place (stepRow s .value) t) (cond (adding s) (afterAdd place (stepRow s) t) (afterRemove place t))) e
 
-  pub after-add : adding s ≡ true → after t s ≡ afterAdd place (stepRow s) t
-  unfolding after
+  pub after-add : adding s ≡ true → tableAfter t s ≡ afterAdd place (stepRow s) t
+  unfolding tableAfter
   after-add e =
       let other : setting s ≡ false = ne-eqb (kindOf s) 1 (λ q. omega (arith, q, eqb-true (kindOf s) 2 e)) in
       ap₂ (λ (b c : Bool). cond b (afterSet place (stepRow s .value) t) (cond c (afterAdd place (stepRow s) t) (afterRemove place t))) other e
 
-  pub after-remove : removing s ≡ true → after t s ≡ afterRemove place t
-  unfolding after
+  pub after-remove : removing s ≡ true → tableAfter t s ≡ afterRemove place t
+  unfolding tableAfter
   after-remove e =
       let one : setting s ≡ false = ne-eqb (kindOf s) 1 (λ q. omega (arith, q, eqb-true (kindOf s) 3 e)) in
       let two : adding s ≡ false = ne-eqb (kindOf s) 2 (λ q. omega (arith, q, eqb-true (kindOf s) 3 e)) in
@@ -122,7 +122,7 @@ module _ (t s : List ℕ) where
     pub row-there : adding s ≡ false → place < rowCount t
     row-there e = ltb-true place (rowCount t) (and-left (ltb place (rowCount t)) _ (passed-row t s passed e))
 
-    pub row-same : adding s ≡ false → samePlace (stepRow s) (rowAt t place) ≡ true
+    pub row-same : adding s ≡ false → sameRow (rowAt t place) (stepRow s) ≡ true
     row-same e = and-right (ltb place (rowCount t)) _ (passed-row t s passed e)
 
   pub set-adds-none : setting s ≡ true → adding s ≡ false
@@ -131,26 +131,74 @@ module _ (t s : List ℕ) where
   pub remove-adds-none : removing s ≡ true → adding s ≡ false
   remove-adds-none e = ne-eqb (kindOf s) 2 (λ q. omega (arith, q, eqb-true (kindOf s) 3 e))
 
-  -- a row set or added is in the table after
+  -- ---- the rows before and after: those in front of the place, and those behind the row there
   module _ (whole : length t ≡ rowWords * rowCount t) where
-    in-front : (r : Row) (behind : List Row) → rows (after t s) ≡ rows (upTo place t) ++ (r ∷ behind) → place < rowCount (after t s)
-    in-front r behind e =
-        let sum = length-append (rows (upTo place t)) (r ∷ behind) in
-        omega (arith, sum, ap length e, length-rows (after t s), length-rows (upTo place t), front-count t whole place place-low)
+    abbrev pub front : List Row
+    front = rows (firstRows place t)
 
-    pub place-after : isDone (stepPlace t s) ≡ true → removing s ≡ false → place < rowCount (after t s)
+    abbrev pub behind-it : List Row
+    behind-it = rows (fromRow (suc place) t)
+
+    abbrev pub from-it : List Row
+    from-it = rows (fromRow place t)
+
+    -- the row set
+    abbrev pub newRow : Row
+    newRow = withValue (stepRow s .value) (rowAt t place)
+
+    pub rows-before : rows t ≡ front ++ from-it
+    rows-before = rows-split t whole place place-low
+
+    pub rows-around : isDone (stepPlace t s) ≡ true → adding s ≡ false → rows t ≡ front ++ (rowAt t place ∷ behind-it)
+    rows-around passed e = rows-before ∙ ap (λ (B : List Row). front ++ B) (rows-at t whole place (row-there passed e))
+
+    pub rows-set : setting s ≡ true → rows (tableAfter t s) ≡ front ++ (newRow ∷ behind-it)
+    rows-set e = ap rows (after-set e) ∙ rows-with t whole place place-low newRow (suc place)
+
+    pub rows-add : adding s ≡ true → rows (tableAfter t s) ≡ front ++ (stepRow s ∷ from-it)
+    rows-add e = ap rows (after-add e) ∙ rows-with t whole place place-low (stepRow s) place
+
+    pub rows-remove : removing s ≡ true → rows (tableAfter t s) ≡ front ++ behind-it
+    rows-remove e = ap rows (after-remove e) ∙ rows-without t whole place place-low (suc place)
+
+    pub row-set : setting s ≡ true → rowAt (tableAfter t s) place ≡ newRow
+    row-set e = ap (λ (u : List ℕ). rowAt u place) (after-set e) ∙ row-with t whole place place-low newRow (suc place)
+
+    pub row-add : adding s ≡ true → rowAt (tableAfter t s) place ≡ stepRow s
+    row-add e = ap (λ (u : List ℕ). rowAt u place) (after-add e) ∙ row-with t whole place place-low (stepRow s) place
+
+    -- a row set or added is in the table after
+    in-front : (r : Row) (others : List Row) → rows (tableAfter t s) ≡ front ++ (r ∷ others) → place < rowCount (tableAfter t s)
+    in-front r others e =
+        let sum = length-append front (r ∷ others) in
+        omega (arith, sum, ap length e, length-rows (tableAfter t s), length-rows (firstRows place t), front-count t whole place place-low)
+
+    pub place-after : isDone (stepPlace t s) ≡ true → removing s ≡ false → place < rowCount (tableAfter t s)
     place-after passed e = by-kind passed
-        (λ q. in-front _ _ (ap rows (after-set q) ∙ rows-with t whole place place-low (withValue (stepRow s .value) (rowAt t place)) (suc place)))
-        (λ q. in-front _ _ (ap rows (after-add q) ∙ rows-with t whole place place-low (stepRow s) place))
+        (λ q. in-front _ _ (rows-set q))
+        (λ q. in-front _ _ (rows-add q))
         (λ q. absurd (true≢false (sym q ∙ e)))
 
     -- it has one row more at most
-    pub after-long : isDone (stepPlace t s) ≡ true → length (after t s) ≤ length t + rowWords
+    pub after-long : isDone (stepPlace t s) ≡ true → length (tableAfter t s) ≤ length t + rowWords
     after-long passed = by-kind passed
-        (λ q. subst (λ (u : List ℕ). length u ≤ length t + rowWords) (sym (after-set q)) (short (columnsOf (withValue (stepRow s .value) (rowAt t place))) refl (suc place) (omega arith)))
+        (λ q. subst (λ (u : List ℕ). length u ≤ length t + rowWords) (sym (after-set q)) (short (columnsOf newRow) refl (suc place) (omega arith)))
         (λ q. subst (λ (u : List ℕ). length u ≤ length t + rowWords) (sym (after-add q)) (short (columnsOf (stepRow s)) refl place (omega arith)))
-        (λ q. omega (arith, ap length (after-remove q), length-append (upTo place t) (fromRow (suc place) t), front-length t whole place place-low, length-drop (rowWords * suc place) t, place-low))
+        (λ q. omega (arith, ap length (after-remove q), length-append (firstRows place t) (fromRow (suc place) t), front-length t whole place place-low, length-drop (rowWords * suc place) t, place-low))
       where
-        short : (m : List ℕ) → length m ≡ rowWords → (q : ℕ) → place ≤ q → length (upTo place t ++ (m ++ fromRow q t)) ≤ length t + rowWords
+        short : (m : List ℕ) → length m ≡ rowWords → (q : ℕ) → place ≤ q → length (firstRows place t ++ (m ++ fromRow q t)) ≤ length t + rowWords
         short m e q l =
-            omega (arith, length-append (upTo place t) (m ++ fromRow q t), length-append m (fromRow q t), front-length t whole place place-low, length-drop (rowWords * q) t, place-low)
+            omega (arith, length-append (firstRows place t) (m ++ fromRow q t), length-append m (fromRow q t), front-length t whole place place-low, length-drop (rowWords * q) t, place-low)
+
+    -- a row removed leaves whole rows
+    pub remove-length : isDone (stepPlace t s) ≡ true → removing s ≡ true → length (tableAfter t s) ≡ rowWords * (rowCount t - 1)
+    remove-length passed e =
+        omega (
+          arith,
+          ap length (after-remove e),
+          length-append (firstRows place t) (fromRow (suc place) t),
+          front-length t whole place place-low,
+          length-drop (rowWords * suc place) t,
+          row-there passed (remove-adds-none e),
+          whole,
+        )

@@ -1,7 +1,7 @@
 -- What the code that looks for a step's row rests on, over plain variables. Assumes nothing.
 use Prim.Native.Nat.{ℕ, _≤_, _<_}
-use mathlib.Core.Path.{_≡_, refl, sym, ap, ap₂, subst, _∙_}
-use mathlib.Core.Bool.{Bool, true, false, not, cond, _&&_, _||_}
+use mathlib.Core.Path.{_≡_, sym, ap, _∙_}
+use mathlib.Core.Bool.{Bool, true, false, not, _&&_, _||_}
 use mathlib.Core.List.{List}
 use native.Mathlib.Omega.{arith}
 use lib.ListN.{length}
@@ -12,11 +12,11 @@ use Rattle.base.proofs.Bools.{and-left}
 use Rattle.base.proofs.Search.{Passed, none, some-at}
 use Rattle.tables.specs.Answers.{unless}
 use Rattle.tables.specs.Words.{rowAt, rowCount}
-use Rattle.tables.specs.Tables.{isAbove, isParent}
+use Rattle.tables.specs.Tables.{sameRow, isAbove, isParent}
 use Rattle.tables.specs.declared.Row.{Row}
 use Rattle.tables.specs.declared.Answer.{Answer}
 use Rattle.tables.specs.declared.Answer.the-variants.{Done, Refused}
-use Rattle.plans.specs.Plans.{stepWords, setting, adding, removing, isStep, stepRow, samePlace, placeFor, isThere, hasUnder, stepPlace}
+use Rattle.plans.specs.Plans.{stepWords, setting, adding, removing, isStep, stepRow, placeFor, isThere, hasUnder, stepPlace}
 
 -- ---- the tests of the two searches
 pub above-here : (r : Row) {p q : Row} {b x : Bool} → p ≡ q → b ≡ isAbove r p → not b ≡ x → not (isAbove r q) ≡ x
@@ -42,12 +42,12 @@ having s h = sym (ap (λ (b : Bool). b && (setting s || (adding s || removing s)
 module _ (t : List ℕ) (r : Row) {place : ℕ} (place-is : place ≡ placeFor t r) where
   pub there-found : place < rowCount t → {p : Row} → p ≡ rowAt t place → (eqb (p .device) (r .device) && eqb (p .at) (r .at)) ≡ isThere t r
   there-found h p-is =
-      ap (samePlace r) (p-is ∙ ap (rowAt t) place-is)
-      ∙ sym (ap (λ (b : Bool). b && samePlace r (rowAt t (placeFor t r))) (ap (λ (n : ℕ). ltb n (rowCount t)) (sym place-is) ∙ lt-ltb place (rowCount t) h))
+      ap (λ (x : Row). sameRow x r) (p-is ∙ ap (rowAt t) place-is)
+      ∙ sym (ap (λ (b : Bool). b && sameRow (rowAt t (placeFor t r)) r) (ap (λ (n : ℕ). ltb n (rowCount t)) (sym place-is) ∙ lt-ltb place (rowCount t) h))
 
   pub there-not : rowCount t ≤ place → false ≡ isThere t r
   there-not h =
-      sym (ap (λ (b : Bool). b && samePlace r (rowAt t (placeFor t r))) (ap (λ (n : ℕ). ltb n (rowCount t)) (sym place-is) ∙ le-ltb place (rowCount t) h))
+      sym (ap (λ (b : Bool). b && sameRow (rowAt t (placeFor t r)) r) (ap (λ (n : ℕ). ltb n (rowCount t)) (sym place-is) ∙ le-ltb place (rowCount t) h))
 
 -- ---- 23 to 25
 some-passes : (a b : Bool) {x : Bool} → (not a && not b) ≡ x → (a || b) ≡ not x

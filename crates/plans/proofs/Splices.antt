@@ -1,14 +1,14 @@
 -- What the code that writes the table after a step rests on, over plain variables. Assumes nothing.
 use Prim.Native.Nat.{ℕ, suc, _+_, _-_, _*_, _≤_, _<_}
-use mathlib.Core.Path.{_≡_, refl, sym, ap, ap₂, subst, _∙_}
+use mathlib.Core.Path.{_≡_, sym, ap, ap₂, subst, _∙_}
 use mathlib.Core.Bool.{Bool, true, false, not, cond, _&&_, _||_}
-use mathlib.Core.List.{List, [], _∷_, _++_}
+use mathlib.Core.List.{List, [], _++_}
 use native.Mathlib.Omega.{arith}
-use lib.ListN.{length, getD, take, drop, length-append, length-drop}
+use lib.ListN.{length, take, drop, length-append, length-drop}
 use lib.Seq.{sets, sets-eq, length-take-le, take-all}
-use lib.Dec.{eqb, ltb, leb}
-use borrow.Author.Tests.{le-leb, lt-leb, leb-true, ltb-true, eq-eqb, ne-eqb}
-use Rattle.base.proofs.Bools.{either, and-left, and-right}
+use lib.Dec.{ltb, leb}
+use borrow.Author.Tests.{le-leb, lt-leb, leb-true, ltb-true, eq-eqb, ne-eqb, not-true}
+use Rattle.base.proofs.Bools.{and-left, and-right}
 use Rattle.base.proofs.Search.{first-le}
 use Rattle.tables.specs.Answers.{isDone, value, andThen, unless, fitting, output}
 use Rattle.tables.specs.Words.{rowWords, rowAt, rowCount, columnsOf}
@@ -18,8 +18,8 @@ use Rattle.tables.specs.declared.Answer.{Answer}
 use Rattle.tables.specs.declared.Answer.the-variants.{Done, Refused}
 use Rattle.tables.proofs.Writes.{sets-append}
 use Rattle.tables.proofs.Answers.{unless-ok, unless-next, unless-passed}
-use Rattle.plans.specs.Plans.{stepWords, kindOf, setting, adding, removing, isStep, stepRow, placeFor, isThere, hasUnder, stepPlace, withValue, afterSet, afterAdd, afterRemove, after, changed, changeOut}
-use Rattle.plans.specs.Changing.{spliced, Placed}
+use Rattle.plans.specs.Plans.{stepWords, kindOf, setting, adding, removing, isStep, stepRow, placeFor, isThere, hasUnder, stepPlace, withValue, afterSet, afterAdd, afterRemove, tableAfter, changed, changeOut}
+use Rattle.plans.specs.Changing.{spliced, StepPlaced}
 use Rattle.plans.specs.declared.Change.{Change}
 
 -- ---- a table with some words exchanged for others
@@ -73,7 +73,7 @@ module _ (t : List ℕ) (before : ℕ) (m : List ℕ) (behind : ℕ) (h : before
 pub set-no-add : {k : ℕ} → k ≡ 1 → k ≡ 2 → ⊥
 set-no-add e f = omega (arith, e, f)
 
-module _ (t s : List ℕ) {place : ℕ} (w : Placed t s place) where
+module _ (t s : List ℕ) {place : ℕ} (w : StepPlaced t s place) where
   pub step-words : stepWords ≤ length s
   step-words = leb-true stepWords (length s) (and-left (leb stepWords (length s)) _ (w .is-step))
 
@@ -85,9 +85,9 @@ module _ (t s : List ℕ) {place : ℕ} (w : Placed t s place) where
   row-there e = w .there (ne-eqb (kindOf s) 2 e)
 
   -- from words of which this is the table after
-  pub writes-after : {a : List ℕ} → a ≡ after t s → {answer : Answer} (out : List ℕ) {exit : List ℕ}
+  pub writes-after : {a : List ℕ} → a ≡ tableAfter t s → {answer : Answer} (out : List ℕ) {exit : List ℕ}
       → answer ≡ fitting a (length out) → exit ≡ output answer a out
-      → (answer ≡ fitting (after t s) (length out)) × (exit ≡ output answer (after t s) out)
+      → (answer ≡ fitting (tableAfter t s) (length out)) × (exit ≡ output answer (tableAfter t s) out)
   writes-after a-is {answer} out e f =
       (e ∙ ap (λ (x : List ℕ). fitting x (length out)) a-is, f ∙ ap (λ (x : List ℕ). output answer x out) a-is)
 
@@ -99,24 +99,24 @@ module _ (t s : List ℕ) {place : ℕ} (w : Placed t s place) where
 
   module _ {r : Row} (r-is : r ≡ stepRow s) where
     pub set-is : kindOf s ≡ 1 → {p : Row} → p ≡ rowAt t place → {m : List ℕ} → m ≡ columnsOf (withValue (r .value) p)
-        → spliced t (rowWords * place) m (rowWords * place + rowWords) ≡ after t s
-    unfolding after
+        → spliced t (rowWords * place) m (rowWords * place + rowWords) ≡ tableAfter t s
+    unfolding tableAfter
     set-is e p-is m-is =
         ap₂ (λ (x : List ℕ) (n : ℕ). spliced t (rowWords * place) x n) (m-is ∙ ap₂ (λ (a b : Row). columnsOf (withValue (a .value) b)) r-is p-is) behind
         ∙ ap (λ (p : ℕ). afterSet p (stepRow s .value) t) (w .place-is)
         ∙ sym (ap (λ (b : Bool). cond b (afterSet here (stepRow s .value) t) (cond (adding s) (afterAdd here (stepRow s) t) (afterRemove here t))) (eq-eqb (kindOf s) 1 e))
 
     pub add-is : (kindOf s ≡ 1 → ⊥) → kindOf s ≡ 2 → {m : List ℕ} → m ≡ columnsOf r
-        → spliced t (rowWords * place) m (rowWords * place) ≡ after t s
-    unfolding after
+        → spliced t (rowWords * place) m (rowWords * place) ≡ tableAfter t s
+    unfolding tableAfter
     add-is e f m-is =
         ap (λ (x : List ℕ). spliced t (rowWords * place) x (rowWords * place)) (m-is ∙ ap columnsOf r-is)
         ∙ ap (λ (p : ℕ). afterAdd p (stepRow s) t) (w .place-is)
         ∙ sym (ap₂ (λ (b d : Bool). cond b (afterSet here (stepRow s .value) t) (cond d (afterAdd here (stepRow s) t) (afterRemove here t)))
         (ne-eqb (kindOf s) 1 e) (eq-eqb (kindOf s) 2 f))
 
-  pub remove-is : (kindOf s ≡ 1 → ⊥) → (kindOf s ≡ 2 → ⊥) → spliced t (rowWords * place) [] (rowWords * place + rowWords) ≡ after t s
-  unfolding after
+  pub remove-is : (kindOf s ≡ 1 → ⊥) → (kindOf s ≡ 2 → ⊥) → spliced t (rowWords * place) [] (rowWords * place + rowWords) ≡ tableAfter t s
+  unfolding tableAfter
   remove-is e f =
       ap (λ (n : ℕ). spliced t (rowWords * place) [] n) behind
       ∙ ap (λ (p : ℕ). afterRemove p t) (w .place-is)
@@ -141,6 +141,11 @@ module _ (t s : List ℕ) where
   unfolding stepPlace
   passed-kind ok = and-right (leb stepWords (length s)) _ (unless-ok (isStep s) 23 passed-23 ok)
 
+  pub passed-25 : isDone (stepPlace t s) ≡ true → (removing s && hasUnder t (stepRow s)) ≡ false
+  unfolding stepPlace
+  passed-25 ok = not-true (removing s && hasUnder t (stepRow s)) (unless-ok (not (removing s && hasUnder t (stepRow s))) 25 _
+      (unless-next (adding s || isThere t (stepRow s)) 24 _ (unless-next (isStep s) 23 passed-23 ok)))
+
   pub passed-place : isDone (stepPlace t s) ≡ true → stepPlace t s ≡ Done (placeFor t (stepRow s))
   unfolding stepPlace
   passed-place ok =
@@ -159,7 +164,7 @@ module _ (t s : List ℕ) where
       ok : isDone (stepPlace t s) ≡ true
       ok = ap isDone (sym found-is ∙ done)
 
-      pub step-placed : Placed t s place
+      pub step-placed : StepPlaced t s place
       unfolding stepPlace
       step-placed = record {
         is-step = unless-ok (isStep s) 23 passed-23 ok;
@@ -171,15 +176,15 @@ module _ (t s : List ℕ) where
           at-place : place ≡ placeFor t (stepRow s)
           at-place = ap value (sym done ∙ found-is ∙ passed-place ok)
 
-      pub apply-done : {answer : Answer} {exit : List ℕ} → answer ≡ fitting (after t s) (length out) → exit ≡ output answer (after t s) out
+      pub apply-done : {answer : Answer} {exit : List ℕ} → answer ≡ fitting (tableAfter t s) (length out) → exit ≡ output answer (tableAfter t s) out
           → (record { answer = answer; row = place } ≡ changed t s (length out)) × (exit ≡ changeOut t s out)
-      apply-done {answer} e f = (ap₂ change answered (ap value placed), f ∙ ap (λ (a : Answer). output a (after t s) out) answered)
+      apply-done {answer} e f = (ap₂ change answered (ap value placed), f ∙ ap (λ (a : Answer). output a (tableAfter t s) out) answered)
         where
           placed : Done place ≡ stepPlace t s
           placed = sym done ∙ found-is
 
-          answered : answer ≡ andThen (stepPlace t s) (fitting (after t s) (length out))
-          answered = e ∙ ap (λ (a : Answer). andThen a (fitting (after t s) (length out))) placed
+          answered : answer ≡ andThen (stepPlace t s) (fitting (tableAfter t s) (length out))
+          answered = e ∙ ap (λ (a : Answer). andThen a (fitting (tableAfter t s) (length out))) placed
 
           change : Answer → ℕ → Change
           change a r = record { answer = a; row = r }
@@ -187,8 +192,8 @@ module _ (t s : List ℕ) where
     pub apply-refused : {k p : ℕ} → found ≡ Refused k p
         → (record { answer = Refused k p; row = 0 } ≡ changed t s (length out)) × (out ≡ changeOut t s out)
     apply-refused {k} {p} refused = (
-      ap (λ (a : Answer). record { answer = andThen a (fitting (after t s) (length out)); row = value a }) placed,
-      ap (λ (a : Answer). output (andThen a (fitting (after t s) (length out))) (after t s) out) placed,
+      ap (λ (a : Answer). record { answer = andThen a (fitting (tableAfter t s) (length out)); row = value a }) placed,
+      ap (λ (a : Answer). output (andThen a (fitting (tableAfter t s) (length out))) (tableAfter t s) out) placed,
     )
       where
         placed : Refused k p ≡ stepPlace t s

@@ -9,14 +9,13 @@ use tables::Answer;
 use tables::ROW_WORDS;
 use tables::Row;
 ghost use mathlib.Core.Path.{_≡_};
-ghost use mathlib.Core.List.{_++_};
 ghost use Prim.Native.Nat.{_+_, _≤_};
-ghost use lib.ListN.{length, take, drop};
+ghost use lib.ListN.{length};
 ghost use lib.Seq.{sets};
 ghost use Rattle.tables.specs.Answers.{fitting, output};
 ghost use Rattle.tables.specs.Words.{columnsOf};
-ghost use Rattle.plans.specs.Plans.{after, changed, changeOut};
-ghost use Rattle.plans.specs.Changing.{spliced, Placed};
+ghost use Rattle.plans.specs.Plans.{tableAfter, changed, changeOut};
+ghost use Rattle.plans.specs.Changing.{spliced, StepPlaced};
 
 fn columns_of(r: Row) -> [u32; ROW_WORDS]
     ensures { λ o. ⌜ o ≡ columnsOf r ⌝ }
@@ -58,9 +57,9 @@ fn splice(table: &[u32], before: usize, middle: &[u32], behind: usize, out: &mut
 
 // Writes the table after a step whose row has that place.
 fn put_step(table: &[u32], step: &[u32], place: usize, out: &mut [u32]) -> Answer
-    requires { ⌜ Placed (now table) (now step) place ⌝ }
-    ensures { λ a. ⌜ a ≡ fitting (after (now (table .entry)) (now (step .entry))) (length (now (out .entry))) ⌝ }
-    ensures { λ a. ⌜ now (out .exit) ≡ output a (after (now (table .entry)) (now (step .entry))) (now (out .entry)) ⌝ }
+    requires { ⌜ StepPlaced (now table) (now step) place ⌝ }
+    ensures { λ a. ⌜ a ≡ fitting (tableAfter (now (table .entry)) (now (step .entry))) (length (now (out .entry))) ⌝ }
+    ensures { λ a. ⌜ now (out .exit) ≡ output a (tableAfter (now (table .entry)) (now (step .entry))) (now (out .entry)) ⌝ }
 {
     let before = ROW_WORDS * place;
     let r = step_row(step);

@@ -3,11 +3,13 @@ mod changing;
 mod steps;
 
 pub use changing::apply;
+pub use steps::ADD;
 pub use steps::REMOVE;
+pub use steps::SET;
 pub use steps::STEP_WORDS;
 use tables::Answer;
 
-// What a step does to a table: the words of the table after, or the refusal, and the place of the step's row.
+// What a step does to a table: the number of words of the table after, or the refusal, and the place of the step's row.
 pub struct Change {
     pub answer: Answer,
     pub row: usize,

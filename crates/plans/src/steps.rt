@@ -81,7 +81,7 @@ fn is_there(table: &[u32], r: Row, place: usize) -> bool
     false
 }
 
-// Whether a row's parent is there in its place.
+// Whether some row is under it.
 fn has_under(table: &[u32], r: Row) -> bool
     ensures { λ o. ⌜ o ≡ hasUnder (now (table .entry)) r ⌝ }
 {

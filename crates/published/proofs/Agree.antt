@@ -4,7 +4,7 @@ use native.Mathlib.Omega.{arith}
 use mathlib.Core.Path.{_≡_, refl, sym, ap, ap₂, subst, _∙_}
 use mathlib.Core.Bool.{Bool, true, false, not, cond, _&&_, _||_}
 use mathlib.Core.List.{List, [], _∷_, _++_, map, append-nil, append-assoc, List·Memᴰ·head, List·Memᴰ·tail}
-use lib.ListN.{length, drop}
+use lib.ListN.{length, drop, replicate, length-replicate, drop-of-length-le}
 use lib.Dec.{eqb, ltb, leb}
 use borrow.Author.Tests.{eqb-true, eqb-false, eq-eqb, ltb-true, le-leb}
 use Rattle.base.specs.Lists.{_∈_, select, all, any}
@@ -23,9 +23,11 @@ use Rattle.sets.specs.Sets.{rulesOf, acceptedSet}
 use Rattle.sets.proofs.Sets.{rule-accepted}
 use Rattle.logic.specs.Formulas.{Formula, negation, joined, quantified, compared, Connective, and, or, implies, Quantifier, every, some, Comparison, equal, less, atMost, Over, roots, under, Operand, variable, constant, formula, formulasOf}
 use Rattle.logic.specs.Verdict.{connect, compare, Place, bound, Bindings, noneBound, bind, named, hangs, ranges, fold, valueAt, valueOf, holds, verdict, verdictAnswer, verdictBytes, setVerdictsAnswer, setVerdictsOut}
+use Rattle.logic.specs.Trial.{trialOutcome, stateAt, bytesOf}
 use Rattle.logic.proofs.Calls.{verdict-count, verdicts-are, bytes-are}
+use Rattle.logic.proofs.Trials.{begun-set, trials}
 use Rattle.published.specs.Published.{Tree, CL, Path, _is_, v, _⊨_}
-use Rattle.published.specs.Stated.{Standing, Standings, noStanding, stand, pathTo, term, connective, quantifier, comparison, stated, treeOf, tree, published, Agreed, Answered, SetAnswered}
+use Rattle.published.specs.Stated.{Standing, Standings, noStanding, stand, pathTo, term, connective, quantifier, comparison, stated, treeOf, tree, published, Agreed, Answered, SetAnswered, TrialAnswered}
 use Rattle.published.proofs.Rows.{Fit, fit}
 use Rattle.published.proofs.Descent.{child, values, Siblings, step}
 use Rattle.published.proofs.Scoped.{scoped, overBound, operandBound, rule-scoped}
@@ -185,3 +187,19 @@ module _ (rules counts pool : List ℕ) (s : acceptedSet rules counts ≡ true) 
 
 pub set-answered : SetAnswered
 set-answered rules counts pool out s t l = set-bytes rules counts pool s t out l
+
+-- the bytes of a step, which the set's verdict call writes into as many bytes
+pub trial-answered : TrialAnswered
+trial-answered rules counts pool steps words bytes begun k h =
+    let tried = trials rules counts pool steps words bytes begun in
+    let table = stateAt (formulasOf rules counts) pool steps (suc k) .table in
+    let out : List ℕ = replicate (length counts) 0 in
+    let long : length out ≡ length counts = length-replicate {A = ℕ} (length counts) 0 in
+    let ok = tried .accepted (suc k) (omega (arith, h)) in
+    let s = begun-set rules counts pool words begun in
+    let room : length counts ≤ length out = omega (arith, long) in
+    let full : length out ≤ length counts = omega (arith, long) in
+    let none : drop (length counts) out ≡ [] = drop-of-length-le out full in
+    sym (append-nil _) ∙ ap (λ (zs : List ℕ). bytesOf (length counts) k (trialOutcome rules counts pool steps words bytes) ++ zs) (sym none)
+    ∙ sym (tried .as-dumped k h out room .1) ∙ set-answered rules counts table out s ok room .1
+    ∙ ap (λ (zs : List ℕ). map (λ rule. one (published rule table)) (rulesOf rules counts) ++ zs) none ∙ append-nil _

@@ -6,19 +6,19 @@ use Rattle.tables.specs.Rules.{aroundFrom, entryFault, checkRule}
 use Rattle.tables.specs.Tables.{rowFault, checkTable}
 use Rattle.tables.specs.Joining.{joinTables, joinAnswer, joinPool}
 use Rattle.sets.specs.Sets.{rulesFrom, ruleByRule, checkSet}
-use Rattle.plans.specs.Plans.{stepsFrom, stepPlace, after}
+use Rattle.plans.specs.Plans.{stepsFrom, stepPlace, tableAfter}
 use Rattle.logic.specs.Formulas.{formulas, formulaAt}
 use Rattle.logic.specs.Verdict.{holds, verdict, verdictAnswer, setVerdictsAnswer, setVerdictsOut}
 use Rattle.logic.specs.Marks.{reason, marked, marksAnswer, marksOut}
 use Rattle.logic.specs.Reading.{reading}
 use Rattle.logic.specs.Parts.{reachedIn, reached, spareIn, spare, reachedByAny, spareForEach, lineage, ancestors, partBy, branchPart, fullPart, partOf, sendAnswer, sendOut}
-use Rattle.logic.specs.Trial.{stepAnswer, run, beginAnswer}
+use Rattle.logic.specs.Trial.{stepAnswer, trySteps, beginAnswer}
 use Rattle.published.specs.Published.{v, _⊨_}
 use Rattle.published.specs.Stated.{stated, treeOf, tree, published}
 use Rattle.published.specs.Cases.{right, cases, Worked, constraint1, addresses, AsPrinted}
 
 pub worked : Worked
-unfolding firstFrom sumBelow rowsFrom aroundFrom entryFault checkRule rowFault checkTable rulesFrom ruleByRule checkSet joinTables joinAnswer joinPool formulas formulaAt holds verdict verdictAnswer setVerdictsAnswer setVerdictsOut reason marked marksAnswer marksOut reading reachedIn reached spareIn spare reachedByAny spareForEach lineage ancestors partBy branchPart fullPart partOf sendAnswer sendOut stepsFrom stepPlace after stepAnswer run beginAnswer v _⊨_ stated treeOf tree published right cases
+unfolding firstFrom sumBelow rowsFrom aroundFrom entryFault checkRule rowFault checkTable rulesFrom ruleByRule checkSet joinTables joinAnswer joinPool formulas formulaAt holds verdict verdictAnswer setVerdictsAnswer setVerdictsOut reason marked marksAnswer marksOut reading reachedIn reached spareIn spare reachedByAny spareForEach lineage ancestors partBy branchPart fullPart partOf sendAnswer sendOut stepsFrom stepPlace tableAfter stepAnswer trySteps beginAnswer v _⊨_ stated treeOf tree published right cases
 worked = refl
 
 pub as-printed : AsPrinted

@@ -21,7 +21,7 @@ use Rattle.logic.specs.Formulas.{formula}
 use Rattle.logic.specs.Verdict.{verdict, verdictAnswer, setVerdictsAnswer, setVerdictsOut}
 use Rattle.logic.specs.Marks.{marksAnswer, marksOut}
 use Rattle.logic.specs.Parts.{spare, partAnswer, partOut, setPartAnswer, setPartOut}
-use Rattle.logic.specs.Trial.{trialRun, trialOf, verdictsLeft}
+use Rattle.logic.specs.Trial.{trialOutcome, returnedBy, appendedBy}
 use Rattle.published.specs.Published.{CL, NOT, OR, IMPLIES, SOME, EACH, EQUAL, _is_}
 use Rattle.published.specs.Stated.{noStanding, stated, published}
 
@@ -115,18 +115,18 @@ abbrev pub rootsAndChild : List ℕ
 rootsAndChild = row 2 1 0 0 3 1 ++ row 2 2 0 0 3 3 ++ row 2 3 0 0 1 0 ++ row 2 4 3 1 1 3
 
 -- ---- plans
-abbrev pub set : ℕ → ℕ → ℕ → List ℕ
-set device at value = 1 ∷ row device at 9 9 9 value
+abbrev pub setStep : ℕ → ℕ → ℕ → List ℕ
+setStep device at value = 1 ∷ row device at 9 9 9 value
 
-abbrev pub add : ℕ → ℕ → ℕ → ℕ → ℕ → ℕ → List ℕ
-add device at up deep name value = 2 ∷ row device at up deep name value
+abbrev pub addStep : ℕ → ℕ → ℕ → ℕ → ℕ → ℕ → List ℕ
+addStep device at up deep name value = 2 ∷ row device at up deep name value
 
-abbrev pub remove : ℕ → ℕ → List ℕ
-remove device at = 3 ∷ row device at 9 9 9 9
+abbrev pub removeStep : ℕ → ℕ → List ℕ
+removeStep device at = 3 ∷ row device at 9 9 9 9
 
 -- a switch more, which is a second server; then the first server becomes client, and a row goes
 abbrev pub secondServer : List ℕ
-secondServer = add 4 1 0 0 1 14 ++ add 4 2 1 1 2 2 ++ set 1 2 1 ++ remove 1 3
+secondServer = addStep 4 1 0 0 1 14 ++ addStep 4 2 1 1 2 2 ++ setStep 1 2 1 ++ removeStep 1 3
 
 -- ---- what a case gives and expects
 -- a row by (device, at)
@@ -178,8 +178,8 @@ markedRows (r ∷ rs) (m ∷ out) =
     cond (eqb m 0) [] (cond (eqb m 1) (key (r .device) (r .at)) (m ∷ [])) ++ markedRows rs out
 
 -- the numbers that a trial returns
-abbrev pub returned : Trial → List ℕ
-returned x = x .number ∷ x .place ∷ x .steps ∷ x .rows ∷ []
+abbrev pub numbersOf : Trial → List ℕ
+numbersOf x = x .number ∷ x .place ∷ x .steps ∷ x .rows ∷ []
 
 unfoldable pub right : Case → Bool
 right (judged rule pool truth marks) =
@@ -209,10 +209,10 @@ right (setSends rules counts mode table sent) =
     && sameAnswer (setPartAnswer rules counts table 4 0) (Refused 13 0)
     && sameWords (setPartOut rules counts table mode (buffer (length table))) (sent ++ drop (length sent) (buffer (length table)))
 right (tries rules counts pool steps words bytes number place done table verdicts) =
-    let r = trialRun rules counts pool steps words bytes in
-    sameWords (returned (trialOf r)) (number ∷ place ∷ done ∷ rowCount table ∷ [])
+    let r = trialOutcome rules counts pool steps words bytes in
+    sameWords (numbersOf (returnedBy r)) (number ∷ place ∷ done ∷ rowCount table ∷ [])
     && sameWords (r .state .table) table
-    && sameWords (verdictsLeft r (buffer bytes)) (verdicts ++ buffer (bytes - length verdicts))
+    && sameWords (appendedBy r (buffer bytes)) (verdicts ++ buffer (bytes - length verdicts))
     && sameWords (drop (length counts * (done - 1)) verdicts) (cond (eqb done 0) [] (map (λ rule. one (published rule table)) (rulesOf rules counts)))
 right (differs rule pool answer truth onRows) =
     acceptedRule rule && sameAnswer (checkTable pool) answer
@@ -333,27 +333,31 @@ cases =
     ∷ tries (ruleA ++ ruleB) (6 ∷ 9 ∷ []) (D1 ++ D2) [] 30 4 0 0 0 (D1 ++ D2) []
     -- rows go in their place: before the first, as a device between two, behind the last, between two of a device
     ∷ tries (everyIs 1) (2 ∷ []) (row 2 4 0 0 1 2 ++ row 2 9 4 1 5 5 ++ row 4 1 0 0 1 4)
-    (add 1 1 0 0 1 1 ++ add 3 1 0 0 1 3 ++ add 5 1 0 0 1 5 ++ add 2 6 4 1 5 6) 42 4 0 0 4
+    (addStep 1 1 0 0 1 1 ++ addStep 3 1 0 0 1 3 ++ addStep 5 1 0 0 1 5 ++ addStep 2 6 4 1 5 6) 42 4 0 0 4
     (row 1 1 0 0 1 1 ++ row 2 4 0 0 1 2 ++ row 2 6 4 1 5 6 ++ row 2 9 4 1 5 5 ++ row 3 1 0 0 1 3 ++ row 4 1 0 0 1 4 ++ row 5 1 0 0 1 5) (0 ∷ 0 ∷ 0 ∷ 0 ∷ [])
     -- 23: unknown kinds; a remove of three words, found when it is reached
     ∷ tries (ruleA ++ ruleB) (6 ∷ 9 ∷ []) (D1 ++ D2) (0 ∷ row 1 3 1 1 3 101) 60 8 23 0 0 (D1 ++ D2) []
     ∷ tries (ruleA ++ ruleB) (6 ∷ 9 ∷ []) (D1 ++ D2) (4 ∷ row 1 3 1 1 3 101) 60 8 23 0 0 (D1 ++ D2) []
-    ∷ tries (ruleA ++ ruleB) (6 ∷ 9 ∷ []) (D1 ++ D2) (set 2 2 2 ++ 3 ∷ 1 ∷ 3 ∷ []) 60 8 23 1 1 (D1 ++ row 2 1 0 0 1 12 ++ row 2 2 1 1 2 2) (1 ∷ 0 ∷ [])
+    ∷ tries (ruleA ++ ruleB) (6 ∷ 9 ∷ []) (D1 ++ D2) (setStep 2 2 2 ++ 3 ∷ 1 ∷ 3 ∷ []) 60 8 23 1 1 (D1 ++ row 2 1 0 0 1 12 ++ row 2 2 1 1 2 2) (1 ∷ 0 ∷ [])
     -- 24: no such row, which it also is with device 0 or at 0; 25: rows under it
-    ∷ tries (ruleA ++ ruleB) (6 ∷ 9 ∷ []) (D1 ++ D2) (set 1 4 5) 60 8 24 0 0 (D1 ++ D2) []
-    ∷ tries (ruleA ++ ruleB) (6 ∷ 9 ∷ []) (D1 ++ D2) (remove 1 0) 60 8 24 0 0 (D1 ++ D2) []
-    ∷ tries (ruleA ++ ruleB) (6 ∷ 9 ∷ []) (D1 ++ D2) (remove 1 3 ++ remove 1 1) 60 8 25 1 1 (row 1 1 0 0 1 11 ++ row 1 2 1 1 2 2 ++ D2) (1 ∷ 1 ∷ [])
+    ∷ tries (ruleA ++ ruleB) (6 ∷ 9 ∷ []) (D1 ++ D2) (setStep 1 4 5) 60 8 24 0 0 (D1 ++ D2) []
+    ∷ tries (ruleA ++ ruleB) (6 ∷ 9 ∷ []) (D1 ++ D2) (removeStep 1 0) 60 8 24 0 0 (D1 ++ D2) []
+    ∷ tries (ruleA ++ ruleB) (6 ∷ 9 ∷ []) (D1 ++ D2) (removeStep 1 3 ++ removeStep 1 1) 60 8 25 1 1 (row 1 1 0 0 1 11 ++ row 1 2 1 1 2 2 ++ D2) (1 ∷ 1 ∷ [])
+    ∷ tries (ruleA ++ ruleB) (6 ∷ 9 ∷ []) (D1 ++ D2) (setStep 0 1 5) 60 8 24 0 0 (D1 ++ D2) []
+    ∷ tries (ruleA ++ ruleB) (6 ∷ 9 ∷ []) (D1 ++ D2) (setStep 1 4 2147483648) 60 8 24 0 0 (D1 ++ D2) []
     -- 9, 10, 11, 26 and 12 of the table after: the place is the step's number
-    ∷ tries (ruleA ++ ruleB) (6 ∷ 9 ∷ []) (D1 ++ D2) (add 0 1 0 0 1 1) 60 8 9 0 0 (D1 ++ D2) []
-    ∷ tries (ruleA ++ ruleB) (6 ∷ 9 ∷ []) (D1 ++ D2) (remove 1 3 ++ add 2 2 1 1 2 7) 60 8 10 1 1 (row 1 1 0 0 1 11 ++ row 1 2 1 1 2 2 ++ D2) (1 ∷ 1 ∷ [])
-    ∷ tries (ruleA ++ ruleB) (6 ∷ 9 ∷ []) (D1 ++ D2) (add 2 3 4 1 2 7) 60 8 11 0 0 (D1 ++ D2) []
-    ∷ tries (ruleA ++ ruleB) (6 ∷ 9 ∷ []) (D1 ++ D2) (add 2 3 2 1 2 7) 60 8 26 0 0 (D1 ++ D2) []
-    ∷ tries (ruleA ++ ruleB) (6 ∷ 9 ∷ []) (D1 ++ D2) (set 2 1 11) 60 8 12 0 0 (D1 ++ D2) []
+    ∷ tries (ruleA ++ ruleB) (6 ∷ 9 ∷ []) (D1 ++ D2) (addStep 0 1 0 0 1 1) 60 8 9 0 0 (D1 ++ D2) []
+    ∷ tries (ruleA ++ ruleB) (6 ∷ 9 ∷ []) (D1 ++ D2) (removeStep 1 3 ++ addStep 2 2 1 1 2 7) 60 8 10 1 1 (row 1 1 0 0 1 11 ++ row 1 2 1 1 2 2 ++ D2) (1 ∷ 1 ∷ [])
+    ∷ tries (ruleA ++ ruleB) (6 ∷ 9 ∷ []) (D1 ++ D2) (addStep 2 2 1 1 2 1) 60 8 10 0 0 (D1 ++ D2) []
+    ∷ tries (ruleA ++ ruleB) (6 ∷ 9 ∷ []) (D1 ++ D2) (addStep 2 3 4 1 2 7) 60 8 11 0 0 (D1 ++ D2) []
+    ∷ tries (ruleA ++ ruleB) (6 ∷ 9 ∷ []) (D1 ++ D2) (addStep 2 3 2 1 2 7) 60 8 26 0 0 (D1 ++ D2) []
+    ∷ tries (ruleA ++ ruleB) (6 ∷ 9 ∷ []) (D1 ++ D2) (setStep 2 1 11) 60 8 12 0 0 (D1 ++ D2) []
     -- 17 last: no room for the row; not for the second byte of a step, and then none is written; an equal sibling into a full table is 12
     ∷ tries (ruleA ++ ruleB) (6 ∷ 9 ∷ []) (D1 ++ D2) secondServer 30 8 17 0 0 (D1 ++ D2) []
     ∷ tries (ruleA ++ ruleB) (6 ∷ 9 ∷ []) (D1 ++ D2) secondServer 60 3 17 1 1 (D1 ++ D2 ++ row 4 1 0 0 1 14) (0 ∷ 1 ∷ [])
-    ∷ tries (ruleA ++ ruleB) (6 ∷ 9 ∷ []) (D1 ++ D2) (add 2 3 1 1 2 1) 30 8 12 0 0 (D1 ++ D2) []
-    -- before step 0: the set, the pool, and 17 if the working table can't take it
+    ∷ tries (ruleA ++ ruleB) (6 ∷ 9 ∷ []) (D1 ++ D2) (addStep 2 3 1 1 2 1) 30 8 12 0 0 (D1 ++ D2) []
+    -- before step 0: the set, a rule, the pool, and 17 if the working table can't take it
+    ∷ tries (ruleA ++ nested 0 7) (6 ∷ 8 ∷ []) D1 secondServer 60 8 6 12 0 [] []
     ∷ tries (ruleA ++ ruleB) (6 ∷ 8 ∷ []) D1 secondServer 60 8 20 0 0 [] []
     ∷ tries (ruleA ++ ruleB) (6 ∷ 9 ∷ []) (D2 ++ D1) secondServer 60 8 10 2 0 [] []
     ∷ tries (ruleA ++ ruleB) (6 ∷ 9 ∷ []) (D1 ++ D2) secondServer 29 8 17 0 0 [] []

@@ -1,19 +1,21 @@
 -- A rule as a published formula, a table as a published tree, and the claim that the published meaning gives the verdict.
 -- Assumes nothing.
-use Prim.Native.Nat.{ℕ, suc, _≤_}
+use Prim.Native.Nat.{ℕ, suc, _≤_, _<_}
 use mathlib.Core.Path.{_≡_}
 use mathlib.Core.Bool.{Bool, true, false, cond}
 use mathlib.Core.List.{List, [], _∷_, _++_, map}
 use lib.ListN.{length, drop}
 use lib.Dec.{eqb}
+use Rattle.tables.specs.Answers.{isDone}
 use Rattle.tables.specs.Words.{rows}
 use Rattle.tables.specs.Rules.{one, acceptedRule}
 use Rattle.tables.specs.Tables.{root, isParent, acceptedTable}
 use Rattle.tables.specs.declared.Row.{Row}
 use Rattle.tables.specs.declared.Answer.the-variants.{Done}
 use Rattle.sets.specs.Sets.{rulesOf, acceptedSet}
-use Rattle.logic.specs.Formulas.{Formula, negation, joined, quantified, compared, Connective, and, or, implies, Quantifier, every, some, Comparison, equal, less, atMost, Over, roots, under, Operand, variable, constant, formula}
+use Rattle.logic.specs.Formulas.{Formula, negation, joined, quantified, compared, Connective, and, or, implies, Quantifier, every, some, Comparison, equal, less, atMost, Over, roots, under, Operand, variable, constant, formula, formulasOf}
 use Rattle.logic.specs.Verdict.{verdict, verdictAnswer, setVerdictsAnswer, setVerdictsOut}
+use Rattle.logic.specs.Trial.{beginAnswer, trialOutcome, stateAt, bytesOf}
 use Rattle.published.specs.Published.{Tree, noNode, node, Path, _is_, CL, NOT, OR, AND, IMPLIES, SOME, EACH, EQUAL, LESS, ATMOST, _⊨_}
 
 -- ---- a rule's formula in the document's form
@@ -98,3 +100,11 @@ SetAnswered =
     (rules counts pool out : List ℕ) → acceptedSet rules counts ≡ true → acceptedTable pool ≡ true → length counts ≤ length out
     → (setVerdictsAnswer rules counts pool (length out) ≡ Done (length counts))
     × (setVerdictsOut rules counts pool out ≡ map (λ rule. one (published rule pool)) (rulesOf rules counts) ++ drop (length counts) out)
+
+-- and so is each byte of a plan's verdicts, on the table after its step
+abbrev pub TrialAnswered : Type 0
+TrialAnswered =
+    (rules counts pool steps : List ℕ) (words bytes : ℕ) → isDone (beginAnswer rules counts pool words) ≡ true
+    → (k : ℕ) → k < trialOutcome rules counts pool steps words bytes .steps
+    → bytesOf (length counts) k (trialOutcome rules counts pool steps words bytes)
+    ≡ map (λ rule. one (published rule (stateAt (formulasOf rules counts) pool steps (suc k) .table))) (rulesOf rules counts)

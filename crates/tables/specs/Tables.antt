@@ -21,6 +21,10 @@ isParent r p = eqb (p .device) (r .device) && eqb (p .at) (r .up)
 abbrev pub isDeeper : Row → Row → Bool
 isDeeper r p = eqb (r .deep) (p .deep + 1)
 
+-- (device, at) identifies a row
+abbrev pub sameRow : Row → Row → Bool
+sameRow r s = eqb (r .device) (s .device) && eqb (r .at) (s .at)
+
 -- rows rise by device, then by at: row r stands above row b
 abbrev pub isAbove : Row → Row → Bool
 isAbove r b = ltb (b .device) (r .device) || (eqb (b .device) (r .device) && ltb (b .at) (r .at))

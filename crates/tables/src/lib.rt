@@ -44,11 +44,26 @@ pub use rules::check_rule;
 pub use tables::ROW_LIMIT;
 pub use tables::TABLE_WORDS;
 pub use tables::check_table;
+ghost use mathlib.Core.Path.{_≡_};
+ghost use Rattle.tables.specs.Answers.{value};
 
 // What a call answers: its value, or 01's refusal by number and place.
 pub enum Answer {
     Done(usize),
     Refused { number: u32, place: usize },
+}
+
+// The value of an accepted answer, 0 of a refused one.
+pub fn value_of(answer: Answer) -> usize
+    ensures { λ r. ⌜ r ≡ value answer ⌝ }
+{
+    match answer {
+        Answer::Done(n) => n,
+        Answer::Refused {
+            number: _,
+            place: _,
+        } => 0,
+    }
 }
 
 // A row of a table.

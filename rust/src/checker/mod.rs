@@ -19,9 +19,12 @@ mod set;
 mod spare;
 mod table;
 mod tests_of_line;
+mod trial;
 mod verdict;
 #[cfg(test)]
 mod worked;
+#[cfg(test)]
+mod worked_trials;
 
 pub use device::{device_rows, devices_of};
 pub use entry::{Entry, Quantifier, Relation};
@@ -30,12 +33,13 @@ pub use files_entry::check_files;
 pub use join::join;
 pub use marks::marks;
 pub use part::part;
-pub use reach::fewest_around;
+pub use reach::{fewest_around, is_reached};
 pub use report::{report, report_text, MOST_FILE_BYTES};
 pub use rule::{accepted_rule, check_rule, ENTRY_WORDS, MOST_ENTRIES, MOST_NESTED};
-pub use set::{accepted_set, check_set, rules_of, set_part, set_verdicts, MOST_RULES};
+pub use set::{accepted_set, check_set, rules_of, set_part, set_verdicts, verdicts_on, MOST_RULES};
 pub use spare::spare_rows;
 pub use table::{accepted_table, check_table, rows_of, words_of, Row, MOST_ROWS, ROW_WORDS};
+pub use trial::{rows_after, tried, try_plan, Room, Tried, ADD, REMOVE, SET, STEP_WORDS};
 pub use verdict::verdict;
 
 /// The largest device, at or name.

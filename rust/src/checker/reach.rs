@@ -13,6 +13,11 @@ pub fn fewest_around(entries: &[Entry], rows: &[Row]) -> Vec<Option<usize>> {
     (0..rows.len()).map(around).collect()
 }
 
+/// Whether some quantifier reaches this row.
+pub fn is_reached(entries: &[Entry], rows: &[Row], row: usize) -> bool {
+    !Reach::new(entries, rows).reaching(row).is_empty()
+}
+
 /// Whether some quantifier reaches each row.
 pub fn reached_rows(entries: &[Entry], rows: &[Row]) -> Vec<bool> {
     let reach = Reach::new(entries, rows);

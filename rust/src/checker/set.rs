@@ -26,8 +26,13 @@ pub fn set_part(rules: &[u32], counts: &[u32], table: &[u32], mode: u32, part: &
 /// One byte for each rule.
 fn verdicts_of(rules: &[u32], counts: &[u32], pool: &[u32]) -> Result<Vec<u8>, Refusal> {
     let (set, rows) = accepted(rules, counts, pool)?;
-    let verdict = |entries: &Vec<Entry>| Evaluation { entries, rows: &rows }.verdict(0, &mut vec![]);
-    Ok(set.iter().map(|entries| verdict(entries) as u8).collect())
+    Ok(verdicts_on(&set, &rows))
+}
+
+/// The same of an accepted set on an accepted pool.
+pub fn verdicts_on(set: &[Vec<Entry>], rows: &[Row]) -> Vec<u8> {
+    let verdict = |entries: &Vec<Entry>| Evaluation { entries, rows }.verdict(0, &mut vec![]);
+    set.iter().map(|entries| verdict(entries) as u8).collect()
 }
 
 /// The words of the part.

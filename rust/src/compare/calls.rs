@@ -10,6 +10,8 @@ pub use lower::*;
 pub use parts::*;
 #[cfg(feature = "sets")]
 pub use sets::*;
+#[cfg(feature = "trial")]
+pub use trial::*;
 
 #[cfg(feature = "lower")]
 mod lower {
@@ -185,7 +187,7 @@ mod files_entry {
 
 #[cfg(feature = "sets")]
 mod sets {
-    use crate::compare::{Case, Lent};
+    use crate::compare::{Case, Lent, LentSet};
     use crate::generate::Set;
     use crate::{checker, ffi};
 
@@ -227,20 +229,49 @@ mod sets {
             )
         });
     }
+}
 
-    /// Both buffers of a set.
-    struct LentSet {
-        rules: Lent<u32>,
-        counts: Lent<u32>,
+#[cfg(feature = "trial")]
+mod trial {
+    use crate::answer::{Refusal, Trial};
+    use crate::checker::{tried, words_of, Room, Tried};
+    use crate::compare::{Case, Lent, LentSet};
+    use crate::ffi;
+    use crate::generate::Plan;
+
+    /// Gives what was expected.
+    pub fn try_plan(case: &mut Case, plan: &Plan, room: Room) -> Result<Tried, Refusal> {
+        let Plan { set, pool, steps } = plan;
+        let (words, bytes) = (case.random.words(room.words), case.random.bytes(room.bytes));
+        let (lent, lent_pool, lent_steps) = (LentSet::of(set), Lent::of(pool), Lent::of(steps));
+        let (mut table, mut verdicts) = (Lent::of(&words), Lent::of(&bytes));
+        let found = ffi::try_plan(
+            lent.rules.get(),
+            lent.counts.get(),
+            lent_pool.get(),
+            lent_steps.get(),
+            table.get_mut(),
+            verdicts.get_mut(),
+        );
+        let kept = lent.holds(set) && lent_pool.holds(pool) && lent_steps.holds(steps);
+        let expected = tried(&set.rules, &set.counts, pool, steps, room);
+        let (answer, as_expected) = match &expected {
+            Ok(left) => (left.answer(), is_left(left, &table, &verdicts, &bytes)),
+            Err(refusal) => (Trial::before_steps(*refusal), table.holds(&words) && verdicts.holds(&bytes)),
+        };
+        case.compared(answer == found && kept && as_expected, answer.answer(), || {
+            let (table, verdicts) = (table.get(), verdicts.get());
+            format!(
+                "try {plan:?} {room:?}: {answer:?} {expected:?}, found {found:?} {table:?} {verdicts:?}; before them {bytes:?}"
+            )
+        });
+        expected
     }
 
-    impl LentSet {
-        fn of(set: &Set) -> LentSet {
-            LentSet { rules: Lent::of(&set.rules), counts: Lent::of(&set.counts) }
-        }
-
-        fn holds(&self, set: &Set) -> bool {
-            self.rules.holds(&set.rules) && self.counts.holds(&set.counts)
-        }
+    /// Whether the outputs hold what the plan leaves. Past the working table they may hold any words, past the
+    /// verdicts they hold the bytes that were there.
+    fn is_left(left: &Tried, table: &Lent<u32>, verdicts: &Lent<u8>, bytes: &[u8]) -> bool {
+        let past = &bytes[left.verdicts.len()..];
+        table.starts_with(&words_of(&left.rows)) && verdicts.holds(&[&left.verdicts, past].concat())
     }
 }

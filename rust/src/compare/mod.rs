@@ -2,9 +2,11 @@
 
 pub mod calls;
 mod lent;
+pub mod refused_step;
+pub mod steps;
 mod tally;
 
-pub use lent::Lent;
+pub use lent::{Lent, LentSet};
 pub use tally::Tally;
 
 use crate::answer::{is_refusal, Answer};
@@ -51,8 +53,13 @@ impl Case {
     }
 
     /// Counts something that the test promises to have seen.
-    pub fn note(&mut self, what: &'static str) {
-        self.tally.note(what);
+    pub fn note(&mut self, what: impl Into<String>) {
+        self.tally.note(what.into());
+    }
+
+    /// Counts those of these that were met.
+    pub fn note_met<const N: usize>(&mut self, notes: [(bool, &str); N]) {
+        notes.into_iter().filter(|(met, _)| *met).for_each(|(_, what)| self.note(what));
     }
 
     /// Counts one comparison; fails if its outcome was not the expected one. A number that is not used may
@@ -91,6 +98,6 @@ mod tests {
     #[test]
     #[should_panic(expected = "GABZERIL_SEED=7: answered by both sides")]
     fn a_number_that_is_not_used_fails() {
-        both_sides_answer(25);
+        both_sides_answer(22);
     }
 }

@@ -12,7 +12,7 @@ pub struct Tally {
     /// Accepted calls with the value 0, and with another.
     values: [u64; 2],
     /// What a test counts beside the answers.
-    notes: BTreeMap<&'static str, u64>,
+    notes: BTreeMap<String, u64>,
 }
 
 impl Tally {
@@ -24,7 +24,7 @@ impl Tally {
         }
     }
 
-    pub fn note(&mut self, what: &'static str) {
+    pub fn note(&mut self, what: String) {
         *self.notes.entry(what).or_default() += 1;
     }
 
@@ -37,7 +37,7 @@ impl Tally {
             *sum += number;
         }
         for (what, number) in &other.notes {
-            *self.notes.entry(what).or_default() += number;
+            *self.notes.entry(what.clone()).or_default() += number;
         }
     }
 

@@ -10,6 +10,12 @@ pub fn verdict_cost(rule: &[u32], pool: &[u32]) -> u64 {
     Cost::new(rule, pool, 0).map_or(0, |cost| cost.of_entry(0))
 }
 
+/// The same on accepted rows.
+pub fn verdict_cost_on(rule: &[u32], rows: &[Row]) -> u64 {
+    let on_rows = |entries| Cost { entries, rows: rows.to_vec(), elsewhere: 0 };
+    accepted_rule(rule).map_or(0, |entries| on_rows(entries).of_entry(0))
+}
+
 /// The same for the bodies that one device reads for its spare rows.
 pub fn reading_cost(rule: &[u32], table: &[u32]) -> u64 {
     Cost::new(rule, table, 1).map_or(0, |cost| cost.of_bodies())

@@ -70,7 +70,7 @@ fn wrong_length(random: &mut Random, table: &mut Vec<u32>) {
 }
 
 /// Check 9; at times several words of the row.
-fn out_of_range(random: &mut Random, row: &mut Row) {
+pub fn out_of_range(random: &mut Random, row: &mut Row) {
     let out = [0, 0, 65_536, 65_537, 2_147_483_647, 2_147_483_648, u32::MAX];
     loop {
         match random.below(4) {

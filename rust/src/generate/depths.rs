@@ -51,7 +51,7 @@ pub fn make_wrong(random: &mut Random, table: &mut [u32], place: usize) {
 }
 
 /// Another depth than that of the row: near it, a limit, or the word of another column.
-fn wrong_depth(random: &mut Random, row: Row) -> u32 {
+pub fn wrong_depth(random: &mut Random, row: Row) -> u32 {
     loop {
         let deep = match random.below(8) {
             0 | 1 => row.deep.wrapping_add(1),

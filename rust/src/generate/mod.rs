@@ -7,6 +7,7 @@ mod cost;
 mod damaged_collisions;
 mod damaged_depths;
 mod damaged_file;
+mod damaged_plan;
 mod damaged_rule;
 mod damaged_set;
 mod damaged_table;
@@ -17,10 +18,15 @@ mod known_table;
 mod lengths;
 mod library_hash;
 mod nested;
+#[cfg(test)]
+mod plan_tests;
+mod plans;
 mod pools;
 mod requests;
+mod rooms;
 mod rules;
 mod sets;
+mod steps;
 #[cfg(test)]
 mod tests;
 mod together;
@@ -32,6 +38,7 @@ pub use cost::{files_cost, reading_cost, set_cost, verdict_cost};
 pub use damaged_collisions::damaged_collisions;
 pub use damaged_depths::damaged_depths;
 pub use damaged_file::{damaged_file, file_of_words};
+pub use damaged_plan::{any_steps, damaged_plan, with_added_row, with_faulty_step, StepFault, STEP_FAULTS};
 pub use damaged_rule::{any_rule, damage_rule, damaged_rule, RULE_FAULTS};
 pub use damaged_set::{damage_set, damaged_set, SetFault, SET_FAULTS};
 pub use damaged_table::{any_table, damage_table, damaged_table, TABLE_FAULTS};
@@ -42,12 +49,14 @@ pub use lengths::{
 };
 pub use library_hash::{ats_of_hash, library_hash, place_hash, twin_hash, FACTORS, STEPS};
 pub use nested::{nested_rule, NestedRule};
+pub use plans::{plan, plan_on_a_full_table, plan_on_colliding_rows, Plan, PlanLimit};
 pub use pools::{pool, pool_of, PoolShape};
 pub use requests::{one_or_several, unknown_mode, with_another_device};
+pub use rooms::{any_room, enough_room, short_room};
 pub use rules::{rule, rule_of, RuleShape};
 pub use sets::{set, set_and_devices, set_and_devices_or_roots, set_and_pool, set_and_roots, Set};
 pub use together::{
     damaged_together, deep_rows, nested_rule_and_table, rule_and_deep_rows, rule_and_devices, rule_and_pool,
     rule_and_roots, rule_and_siblings, Together,
 };
-pub use vocabulary::{word_of_any_class, Vocabulary, NOT_IN_POOL};
+pub use vocabulary::{word_of_any_class, Vocabulary, NOT_IN_POOL, NO_RULE};

@@ -59,7 +59,7 @@ pub fn set(random: &mut Random, vocabulary: &Vocabulary) -> Set {
 }
 
 /// A set of rules each of which is permitted, given the number of rules.
-fn set_within(
+pub fn set_within(
     random: &mut Random,
     vocabulary: &Vocabulary,
     permitted: impl Fn(&[u32], usize) -> bool,
@@ -81,8 +81,12 @@ fn set_within(
 }
 
 /// Whether a rule of a set takes its share of this work. A rule of two entries always does.
-fn is_share(work: u64, cost: u64, count: usize, table: &[u32]) -> bool {
-    work <= cost / count as u64 + 4 * (table.len() / ROW_WORDS) as u64
+pub fn is_share(work: u64, cost: u64, count: usize, rows: usize) -> bool {
+    work <= cost / count as u64 + 4 * rows as u64
+}
+
+fn row_count(table: &[u32]) -> usize {
+    table.len() / ROW_WORDS
 }
 
 /// An accepted set and an accepted pool. The cost is that of all rules.
@@ -90,7 +94,7 @@ pub fn set_and_pool(random: &mut Random, limit: Together) -> (Set, Vec<u32>) {
     let vocabulary = Vocabulary::new(random);
     let pool = pool_within(random, &vocabulary, limit);
     let permitted =
-        |rule: &[u32], count: usize| is_share(verdict_cost(rule, &pool), limit.cost, count, &pool);
+        |rule: &[u32], count: usize| is_share(verdict_cost(rule, &pool), limit.cost, count, row_count(&pool));
     (set_within(random, &vocabulary, permitted), pool)
 }
 
@@ -108,7 +112,8 @@ pub fn set_and_devices(random: &mut Random, limit: Together) -> (Set, Vec<Vec<u3
     let devices = devices_of(&pool);
     let permitted = |rule: &[u32], count: usize| {
         let readings = devices.iter().map(|device| reading_cost(rule, device));
-        is_share(readings.fold(verdict_cost(rule, &pool), u64::saturating_add), limit.cost, count, &pool)
+        let work = readings.fold(verdict_cost(rule, &pool), u64::saturating_add);
+        is_share(work, limit.cost, count, row_count(&pool))
     };
     let set = set_within(random, &vocabulary, permitted);
     (set, with_empty_devices(random, &devices))
@@ -123,7 +128,7 @@ pub fn set_and_roots(random: &mut Random, cost: u64) -> (Set, Vec<u32>) {
     let mut rules = vec![];
     while rules.len() < count {
         let rule = rule_over_roots(random, &vocabulary);
-        if is_share(reading_cost(&rule, &table), cost, count, &table) {
+        if is_share(reading_cost(&rule, &table), cost, count, row_count(&table)) {
             rules.push(rule);
         }
     }

@@ -3,8 +3,10 @@
 use crate::checker::{MOST_NAME, MOST_NESTED, MOST_ROWS, MOST_VALUE};
 use crate::random::Random;
 
-/// A name that no pool uses.
+/// A name that no pool uses, though a step may add it.
 pub const NOT_IN_POOL: u32 = 65_000;
+/// A name that no rule uses.
+pub const NO_RULE: u32 = 64_000;
 
 const WORD_CLASSES: [u32; 19] = [
     0,

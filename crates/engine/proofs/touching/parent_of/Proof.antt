@@ -1,7 +1,5 @@
 -- `engine::touching::parent_of` meets its contract. Assumes nothing.
-use mathlib.Core.Path.{refl}
 use native.Mathlib.Omega.{arith}
-use denote.Ref.{now}
 use Rattle.engine.proofs.Ways.{Searched, search-begin, not-first, found-it, not-there, search-more}
 use borrow.Author.Needs.{needs}
 use Rattle.engine.proofs.touching.parent_of.Statement.{statement}

@@ -12,6 +12,7 @@ run-steps-spec = tie.close (tie.spec
     (λ rules counts steps table₀ held verdicts₀ count bytes₀ words₀ k₀ table verdicts bytes words k. Running rules counts steps held table₀ verdicts₀ k words table bytes verdicts)
     (λ rules counts steps table₀ held verdicts₀ count bytes₀ words₀ k₀ table verdicts bytes words k. count - k)
     (λ c. search needs)
+    (λ c. search needs)
     (λ c. run-begin _ _ _ _ _ _ (c .before .before .before .before .before .pre))
     (λ c. omega (arith, step-inside _ _ _ _ _ _ (c .before .loop .inv) (c .loop-test .taken)))
     (λ c κs. step-inside _ _ _ _ _ _ (c .before .loop .inv) (c .loop-test .taken))

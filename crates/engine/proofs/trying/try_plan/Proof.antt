@@ -1,5 +1,4 @@
 -- `engine::trying::try_plan` meets its contract. Assumes nothing.
-use native.Mathlib.Omega.{arith}
 use denote.Ref.{now}
 use Rattle.engine.proofs.Running.{trial-refused, pool-fits, trial-begun, trial-done}
 use borrow.Author.Needs.{needs}

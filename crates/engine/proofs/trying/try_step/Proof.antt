@@ -1,7 +1,6 @@
 -- `engine::trying::try_step` meets its contract. Assumes nothing.
 use Prim.Native.Nat.{ℕ}
-use mathlib.Core.Path.{sym, refl}
-use native.Mathlib.Omega.{arith}
+use mathlib.Core.Path.{sym}
 use denote.Ref.{now}
 use lib.ListN.{length-replicate}
 use lib.Seq.{length-take-le}

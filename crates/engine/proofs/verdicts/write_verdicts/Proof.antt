@@ -43,7 +43,7 @@ write-verdicts-spec = tie.close (tie.spec
     (λ c. let s = c .before .before .before .before .before .before .before .before .before .before .before .before in
     let loop = c .before .before .before .before .before .before .loop in
     let loop-test = c .before .before .before .before .before .loop-test in
-    let judged = c .judged in
-    write-more _ _ _ _ _ (s .pre .0 .0) (loop .inv) (loop-test .taken) (rule-is _ _ (loop .inv .walked) (loop-test .taken) refl) (judged .ensures) refl)
+    let byte-of = c .byte-of in
+    write-more _ _ _ _ _ (s .pre .0 .0) (loop .inv) (loop-test .taken) (rule-is _ _ (loop .inv .walked) (loop-test .taken) refl) (byte-of .ensures) refl)
     (λ c. c .before .loop .inv .len)
     (λ c. write-end _ _ _ _ _ (c .before .loop .inv) (c .loop-test .left)))

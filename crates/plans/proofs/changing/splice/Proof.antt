@@ -2,8 +2,7 @@
 use mathlib.Core.Path.{refl, sym}
 use native.Mathlib.Omega.{arith}
 use denote.Ref.{now}
-use lib.ListN.{length-drop}
-use lib.Seq.{length-take-le, take-all}
+use lib.Seq.{length-take-le}
 use Rattle.plans.proofs.Splices.{behind-length, splice-short, splice-fits, splice-words}
 use borrow.Author.Needs.{needs}
 use Rattle.plans.proofs.changing.splice.Statement.{statement}

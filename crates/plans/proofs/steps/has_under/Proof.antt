@@ -1,6 +1,5 @@
 -- `plans::steps::has_under` meets its contract. Assumes nothing.
 use Prim.Native.Nat.{_-_}
-use mathlib.Core.Path.{ap, sym, _∙_}
 use native.Mathlib.Omega.{arith}
 use Rattle.base.proofs.Search.{Passed, begin, miss}
 use Rattle.tables.specs.Words.{rowAt}

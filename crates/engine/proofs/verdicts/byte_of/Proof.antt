@@ -1,13 +1,13 @@
--- `engine::verdicts::judged` meets its contract. Assumes nothing.
+-- `engine::verdicts::byte_of` meets its contract. Assumes nothing.
 use native.Mathlib.Omega.{arith}
 use Rattle.engine.proofs.Answered.{start-ready}
-use Rattle.engine.proofs.SetBytes.{one-small, judged-byte}
+use Rattle.engine.proofs.SetBytes.{one-small, asked-byte}
 use borrow.Author.Needs.{needs}
-use Rattle.engine.proofs.verdicts.judged.Statement.{statement}
-use Rattle.engine.proofs.verdicts.judged.Tie as tie
+use Rattle.engine.proofs.verdicts.byte_of.Statement.{statement}
+use Rattle.engine.proofs.verdicts.byte_of.Tie as tie
 
-pub judged-spec : {M : Type 1} → statement M
-judged-spec = tie.close (tie.spec
+pub byte-of-spec : {M : Type 1} → statement M
+byte-of-spec = tie.close (tie.spec
     (λ c. c .before .before .before .pre .1 (c .if1 .taken))
     (λ c κs. search needs)
     (λ c κs. let s = c .before .before .before .before in
@@ -19,4 +19,4 @@ judged-spec = tie.close (tie.spec
     let none = c .before .before .none in
     let holds = c .before .holds in
     let one-if = c .one-if in
-    judged-byte _ _ (s .pre .0 .0) (s .pre .0 .1) (none .ensures) (holds .ensures) (one-if .ensures)))
+    asked-byte _ _ (s .pre .0 .0) (s .pre .0 .1) (none .ensures) (holds .ensures) (one-if .ensures)))

@@ -1,14 +1,13 @@
--- `engine::trying::judge` meets its contract. Assumes nothing.
+-- `engine::trying::bring_up` meets its contract. Assumes nothing.
 use mathlib.Core.Path.{sym}
 use native.Mathlib.Omega.{arith}
-use denote.Ref.{now}
 use Rattle.engine.proofs.Stepping.{step-long, room-for-bytes, removed-inside, other-inside, asked-sized, stay-removed, stay-other}
 use borrow.Author.Needs.{needs}
-use Rattle.engine.proofs.trying.judge.Statement.{statement}
-use Rattle.engine.proofs.trying.judge.Tie as tie
+use Rattle.engine.proofs.trying.bring_up.Statement.{statement}
+use Rattle.engine.proofs.trying.bring_up.Tie as tie
 
-pub judge-spec : {M : Type 1} → statement M
-judge-spec = tie.close (tie.spec
+pub bring-up-spec : {M : Type 1} → statement M
+bring-up-spec = tie.close (tie.spec
     (λ c. omega (arith, step-long _ _ _ _ _ _ _ _ (c .before .before .before .before .before .before .before .pre)))
     (λ c κs. let s = c .before .before .before .before .before .before .before .before in
     let if1 = c .if1 in
