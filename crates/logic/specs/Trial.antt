@@ -45,7 +45,10 @@ fits x words bytes = leb (length (x .table)) words && leb (length (x .verdicts))
 -- step k: 23, 24 and 25, then 8 to 12 of the table after it, 17 last
 unfoldable pub stepAnswer : List Formula → ℕ → ℕ → ℕ → State → List ℕ → Answer
 stepAnswer Fs words bytes k x s =
-    atStep k (andThen (stepPlace (x .table) s) (andThen (checkTable (tableAfter (x .table) s)) (unless (fits (stepped Fs x s) words bytes) 17 (Done k))))
+    atStep k (andThen (stepPlace (x .table) s)
+    (andThen (checkTable (tableAfter (x .table) s))
+    (unless (fits (stepped Fs x s) words bytes) 17
+    (Done k))))
 
 -- ---- the run: the answer, the number of steps done, and the state that they leave
 pub record Outcome : Type 0 where
@@ -94,7 +97,9 @@ verdictsOut rules counts pool steps words out = appendedBy (trialOutcome rules c
 -- the working table at the start of its buffer; the words past it are free, but where the call is refused before step 0
 pub record TableLeft (rules counts pool steps : List ℕ) (bytes : ℕ) (buffer left : List ℕ) : Type 0 where
   pub same-length : length left ≡ length buffer
-  pub working : let r = trialOutcome rules counts pool steps (length buffer) bytes in take (length (r .state .table)) left ≡ r .state .table
+  pub working :
+      let r = trialOutcome rules counts pool steps (length buffer) bytes in
+      take (length (r .state .table)) left ≡ r .state .table
   pub untouched : isDone (beginAnswer rules counts pool (length buffer)) ≡ false → left ≡ buffer
 
 -- ---- the claims

@@ -120,8 +120,8 @@ changed t s room = record { answer = changeAnswer t s room; row = value (stepPla
 abbrev pub changeOut : List ℕ → List ℕ → List ℕ → List ℕ
 changeOut t s out = output (changeAnswer t s (length out)) (tableAfter t s) out
 
--- ---- the claims, for an accepted table and a step that 23 to 25 let pass
--- a row is there exactly if some row has its device and at
+-- ---- the claims
+-- in an accepted table a row is there exactly if some row has its device and at
 abbrev pub ThereExactly : Type 0
 ThereExactly = (t : List ℕ) (r : Row) → acceptedTable t ≡ true → isThere t r ≡ some (λ i. sameRow (rowAt t i) r) (rowCount t)
 
@@ -138,7 +138,8 @@ OnlyNeeded =
     (t s s′ : List ℕ) → SameNeeds s s′ → adding s ≡ false
     → (stepPlace t s ≡ stepPlace t s′) × (isDone (stepPlace t s) ≡ true → tableAfter t s ≡ tableAfter t s′)
 
--- only the value of the row set changes; only that row is added, and it wasn't there if the table after is accepted; only that row goes
+-- a step that 23 to 25 let pass, on an accepted table: only the value of the row set changes; only that row is added, and it wasn't there
+-- if the table after is accepted; only that row goes
 pub record RowsAfter (t s : List ℕ) : Type 0 where
   pub set-one : setting s ≡ true
       → rows (tableAfter t s) ≡ map (λ r. cond (sameRow r (stepRow s)) (withValue (stepRow s .value) r) r) (rows t)
