@@ -18,14 +18,17 @@ set-verdicts-spec = tie.close (tie.spec
     let then-table = c .before .before .before .then-table in
     let enum-told = c .before .enum-told in
     let if1 = c .if1 in
-    verdicts-short (now (s .args .rules)) (now (s .args .counts)) (now (s .args .pool)) (check-set .ensures) (then-table .ensures) (now (s .args .out)) (enum-told .given .1) (if1 .taken))
+    verdicts-short (now (s .args .rules)) (now (s .args .counts)) (now (s .args .pool)) (check-set .ensures)
+    (then-table .ensures) (now (s .args .out)) (enum-told .given .1) (if1 .taken))
     (λ c. refl)
     (λ c κs. let s = c .before .before .before .before .before .before .before .before .before .before .before in
     let check-set = c .before .before .before .before .before .before .check-set in
     let then-table = c .before .before .before .before .before .then-table in
     let enum-told = c .before .before .before .enum-told in
     let if1 = c .before .before .if1 in
-    let ok = set-ok (now (s .args .rules)) (now (s .args .counts)) (now (s .args .pool)) (check-set .ensures) (then-table .ensures) (now (s .args .out)) (enum-told .given .1) in (ok, ((if1 .left, few _ _ [] 0 (ok .0)), λ i h e. absurd (ones-asked _ _ [] 0 (ok .0) i h e))))
+    let ok = set-ok (now (s .args .rules)) (now (s .args .counts)) (now (s .args .pool)) (check-set .ensures)
+    (then-table .ensures) (now (s .args .out)) (enum-told .given .1) in
+    (ok, ((if1 .left, few _ _ [] 0 (ok .0)), λ i h e. absurd (ones-asked _ _ [] 0 (ok .0) i h e))))
     (λ c. search needs)
     (λ c. search needs)
     (λ c. let s = c .before .before .before .before .before .before .before .before .before .before .before .before .before .before in
@@ -34,9 +37,11 @@ set-verdicts-spec = tie.close (tie.spec
     let enum-told = c .before .before .before .before .before .before .enum-told in
     let if1 = c .before .before .before .before .before .if1 in
     let write-verdicts = c .before .before .write-verdicts in
-    verdicts-done (now (s .args .rules)) (now (s .args .counts)) (now (s .args .pool)) (check-set .ensures) (then-table .ensures) (now (s .args .out)) (enum-told .given .1) (if1 .left) (write-verdicts .ensures))
+    verdicts-done (now (s .args .rules)) (now (s .args .counts)) (now (s .args .pool)) (check-set .ensures)
+    (then-table .ensures) (now (s .args .out)) (enum-told .given .1) (if1 .left) (write-verdicts .ensures))
     (λ c. let s = c .before .before .before .before .before .before .before .before .before in
     let check-set = c .before .before .before .before .check-set in
     let then-table = c .before .before .before .then-table in
     let answer = c .before .answer in
-    verdicts-refused (now (s .args .rules)) (now (s .args .counts)) (now (s .args .pool)) (check-set .ensures) (then-table .ensures) (now (s .args .out)) (answer .given .1)))
+    verdicts-refused (now (s .args .rules)) (now (s .args .counts)) (now (s .args .pool)) (check-set .ensures)
+    (then-table .ensures) (now (s .args .out)) (answer .given .1)))

@@ -30,7 +30,8 @@ place-on-way-spec = tie.close (tie.spec
     let depth-of = c .before .before .before .before .before .before .before .depth-of in
     let row-at = c .before .before .before .row-at in
     let if3 = c .if3 in
-    lands-other (now (s .args .pool)) _ (s .args .b .row) (s .args .e) (s .pre .1 .1) (depth-of .ensures) refl (row-at .ensures) (if3 .taken))
+    lands-other (now (s .args .pool)) _ (s .args .b .row) (s .args .e) (s .pre .1 .1) (depth-of .ensures) refl
+    (row-at .ensures) (if3 .taken))
     (λ c. let s = c .before .before .before .before .before .before .before .before .before in
     let depth-of = c .before .before .before .before .before .before .before .depth-of in
     lands-there (now (s .args .pool)) _ (s .args .b .row) (s .args .e) (s .pre .1 .1) (depth-of .ensures) refl))

@@ -32,8 +32,11 @@ touched-rules-spec = tie.close (tie.spec
     let way-up = c .before .before .before .before .before .way-up in
     let loop = c .before .before .before .before .loop in
     let loop-test = c .before .before .before .loop-test in
-    let none = c .none in
-    (ask-ready _ _ _ _ (s .pre .0 .0) (s .pre .0 .1) (loop .inv) (loop-test .taken) (rule-is _ _ (loop .inv .walked) (loop-test .taken) refl) (none .ensures), way-from (now (s .args .rules)) (now (s .args .counts)) _ _ (way-up .ensures)))
+    let none = c .none in (
+      ask-ready _ _ _ _ (s .pre .0 .0) (s .pre .0 .1) (loop .inv) (loop-test .taken) (rule-is _ _ (loop .inv .walked)
+          (loop-test .taken) refl) (none .ensures),
+      way-from (now (s .args .rules)) (now (s .args .counts)) _ _ (way-up .ensures),
+    ))
     (λ c κs. search needs)
     (λ c. omega (arith, c .one-if .ensures, one-small (c .before .touches .result)))
     (λ c. let s = c .before .before .before .before .before .before .before .before .before .before .before in
@@ -49,5 +52,6 @@ touched-rules-spec = tie.close (tie.spec
     let none = c .before .before .none in
     let touches = c .before .touches in
     let one-if = c .one-if in
-    ask-more _ _ _ _ (s .pre .0 .0) (s .pre .0 .1) (loop .inv) (loop-test .taken) (rule-is _ _ (loop .inv .walked) (loop-test .taken) refl) (none .ensures) (way-up .ensures .0) (touches .ensures) refl (one-if .ensures))
+    ask-more _ _ _ _ (s .pre .0 .0) (s .pre .0 .1) (loop .inv) (loop-test .taken) (rule-is _ _ (loop .inv .walked)
+    (loop-test .taken) refl) (none .ensures) (way-up .ensures .0) (touches .ensures) refl (one-if .ensures))
     (λ c. ask-end _ _ _ _ (c .before .loop .inv) (c .loop-test .left)))

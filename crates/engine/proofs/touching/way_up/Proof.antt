@@ -33,8 +33,15 @@ way-up-spec = tie.close (tie.spec
     (λ c κs. let s = c .before .before .before .before .before .before .before .before .before .before .before in
     let loop = c .before .before .before .before .before .before .loop in
     let row-at2 = c .before .before .before .before .before .row-at2 in
-    let parent-of = c .before .before .parent-of in
-    (omega (arith, few-rows _ (s .pre .0), p-inside _ (s .pre .0) _ (loop .inv) (row-at2 .ensures) (parent-of .ensures)), loop .inv .sized))
+    let parent-of = c .before .before .parent-of in (
+      omega (
+        arith,
+        few-rows _ (s .pre .0),
+        p-inside _ (s .pre .0) _ (loop .inv) (row-at2 .ensures)
+            (parent-of .ensures),
+      ),
+      loop .inv .sized,
+    ))
     (λ c. omega (arith, c .before .before .before .parent-of .ensures .0))
     (λ c. let s = c .before .before .before .before .before .before .before .before .before .before .before .before in
     let loop = c .before .before .before .before .before .before .before .loop in

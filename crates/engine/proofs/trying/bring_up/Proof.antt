@@ -15,8 +15,19 @@ bring-up-spec = tie.close (tie.spec
     (λ c. sym (c .before .asked-rules .ensures .0 .sized))
     (λ c κs. let s = c .before .before .before .before .before .before .before .before .before .before .before in
     let if1 = c .before .before .before .if1 in
-    let asked-rules = c .before .before .asked-rules in
-    ((s .pre .set-accepted, s .pre .next-accepted), ((room-for-bytes _ _ _ _ _ _ _ _ (s .pre), asked-sized _ _ _ _ _ _ _ _ (s .pre) (asked-rules .result) (asked-rules .ensures .1) (asked-rules .ensures .0 .sized)), stay-removed _ _ _ _ _ _ _ _ (s .pre) (asked-rules .result) (asked-rules .ensures .1) (if1 .taken) (asked-rules .ensures .0))))
+    let asked-rules = c .before .before .asked-rules in (
+      (s .pre .set-accepted, s .pre .next-accepted),
+      (
+        (
+          room-for-bytes _ _ _ _ _ _ _ _ (s .pre),
+          asked-sized _ _ _ _ _ _ _ _
+              (s .pre) (asked-rules .result) (asked-rules .ensures .1)
+              (asked-rules .ensures .0 .sized),
+        ),
+        stay-removed _ _ _ _ _ _ _ _ (s .pre) (asked-rules .result)
+            (asked-rules .ensures .1) (if1 .taken) (asked-rules .ensures .0),
+      ),
+    ))
     (λ c. search needs)
     (λ c. c .before .before .write-verdicts .ensures)
     (λ c κs. let s = c .before .before .before .before .before .before .before .before in
@@ -25,7 +36,18 @@ bring-up-spec = tie.close (tie.spec
     (λ c. sym (c .before .asked-rules2 .ensures .0 .sized))
     (λ c κs. let s = c .before .before .before .before .before .before .before .before .before .before .before in
     let if1 = c .before .before .before .if1 in
-    let asked-rules2 = c .before .before .asked-rules2 in
-    ((s .pre .set-accepted, s .pre .next-accepted), ((room-for-bytes _ _ _ _ _ _ _ _ (s .pre), asked-sized _ _ _ _ _ _ _ _ (s .pre) (asked-rules2 .result) (asked-rules2 .ensures .1) (asked-rules2 .ensures .0 .sized)), stay-other _ _ _ _ _ _ _ _ (s .pre) (asked-rules2 .result) (asked-rules2 .ensures .1) (if1 .left) (asked-rules2 .ensures .0))))
+    let asked-rules2 = c .before .before .asked-rules2 in (
+      (s .pre .set-accepted, s .pre .next-accepted),
+      (
+        (
+          room-for-bytes _ _ _ _ _ _ _ _ (s .pre),
+          asked-sized _ _ _ _ _ _ _ _
+              (s .pre) (asked-rules2 .result) (asked-rules2 .ensures .1)
+              (asked-rules2 .ensures .0 .sized),
+        ),
+        stay-other _ _ _ _ _ _ _ _ (s .pre) (asked-rules2 .result)
+            (asked-rules2 .ensures .1) (if1 .left) (asked-rules2 .ensures .0),
+      ),
+    ))
     (λ c. search needs)
     (λ c. c .before .before .write-verdicts2 .ensures))

@@ -13,7 +13,8 @@ check-room-spec = tie.close (tie.spec
     (λ c. let s = c .before .before .before .before .before in
     let check-table = c .before .before .before .check-table in
     let checked = c .before .checked in
-    room-refused (now (s .args .next)) (s .args .n) (s .args .k) (s .args .room) (s .args .space) (check-table .ensures) (checked .given .1))
+    room-refused (now (s .args .next)) (s .args .n) (s .args .k) (s .args .room) (s .args .space) (check-table .ensures)
+    (checked .given .1))
     (λ c. search needs)
     (λ c. omega (arith, c .before .before .before .before .pre))
     (λ c. omega (arith, c .before .before .before .before .pre))
@@ -21,9 +22,11 @@ check-room-spec = tie.close (tie.spec
     let check-table = c .before .before .before .check-table in
     let enum-told = c .before .enum-told in
     let if1 = c .if1 in
-    room-short (now (s .args .next)) (s .args .n) (s .args .k) (s .args .room) (s .args .space) (check-table .ensures) (enum-told .given .1) (if1 .taken))
+    room-short (now (s .args .next)) (s .args .n) (s .args .k) (s .args .room) (s .args .space) (check-table .ensures)
+    (enum-told .given .1) (if1 .taken))
     (λ c. let s = c .before .before .before .before .before in
     let check-table = c .before .before .before .check-table in
     let enum-told = c .before .enum-told in
     let if1 = c .if1 in
-    room-fits (now (s .args .next)) (s .args .n) (s .args .k) (s .args .room) (s .args .space) (check-table .ensures) (enum-told .given .1) (s .pre) (if1 .left)))
+    room-fits (now (s .args .next)) (s .args .n) (s .args .k) (s .args .room) (s .args .space) (check-table .ensures)
+    (enum-told .given .1) (s .pre) (if1 .left)))

@@ -47,7 +47,8 @@ run-steps-spec = tie.close (tie.spec
     let try-step = c .before .before .before .before .before .before .before .before .try-step in
     let enum-told = c .before .enum-told in
     let value-of = c .value-of in
-    run-more _ _ _ _ _ _ (loop .inv) (loop-test .taken) (step-end .ensures .words-are) (try-step .ensures) (enum-told .given .1) (value-of .ensures))
+    run-more _ _ _ _ _ _ (loop .inv) (loop-test .taken) (step-end .ensures .words-are) (try-step .ensures)
+    (enum-told .given .1) (value-of .ensures))
     (λ c. c .before .loop .inv .same-table)
     (λ c. c .before .loop .inv .same-verdicts)
     (λ c. run-end _ _ _ _ _ _ (c .before .loop .inv) (c .loop-test .left)))

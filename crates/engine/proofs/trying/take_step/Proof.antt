@@ -21,13 +21,20 @@ take-step-spec = tie.close (tie.spec
     omega (arith, s .pre .1 .1 .1))
     (λ c. let s = c .before .before .before .before .before .before .before .before .before .before .before .before .before in
     let bring-up = c .before .before .before .bring-up in
-    bytes-there (now (s .args .rules)) (now (s .args .counts)) (now (s .args .next)) (now (s .args .bytes)) (room-for-bytes _ _ _ _ _ _ _ _ (s .pre .1 .0)) (bring-up .ensures))
+    bytes-there (now (s .args .rules)) (now (s .args .counts)) (now (s .args .next)) (now (s .args .bytes))
+    (room-for-bytes _ _ _ _ _ _ _ _ (s .pre .1 .0)) (bring-up .ensures))
     (λ c. let s = c .before .before .before .before .before .before .before .before .before .before .before .before .before .before in
     let bring-up = c .before .before .before .before .bring-up in
-    sym (bytes-taken (now (s .args .rules)) (now (s .args .counts)) (now (s .args .next)) (now (s .args .bytes)) (room-for-bytes _ _ _ _ _ _ _ _ (s .pre .1 .0)) (bring-up .ensures)))
+    sym (bytes-taken (now (s .args .rules)) (now (s .args .counts)) (now (s .args .next)) (now (s .args .bytes))
+    (room-for-bytes _ _ _ _ _ _ _ _ (s .pre .1 .0)) (bring-up .ensures)))
     (λ c κs. let s = c .before .before .before .before .before .before .before .before .before .before .before .before .before .before in
     let bring-up = c .before .before .before .before .bring-up in
-    omega (arith, s .pre .1 .1 .1, bytes-taken (now (s .args .rules)) (now (s .args .counts)) (now (s .args .next)) (now (s .args .bytes)) (room-for-bytes _ _ _ _ _ _ _ _ (s .pre .1 .0)) (bring-up .ensures)))
+    omega (
+      arith,
+      s .pre .1 .1 .1,
+      bytes-taken (now (s .args .rules)) (now (s .args .counts)) (now (s .args .next)) (now
+          (s .args .bytes)) (room-for-bytes _ _ _ _ _ _ _ _ (s .pre .1 .0)) (bring-up .ensures),
+    ))
     (λ c κs. let s = c .before .before .before .before .before .before .before .before .before .before .before .before .before .before .before .before .before .before in
     s .pre .1 .1 .0)
     (λ c. search needs)
@@ -36,5 +43,12 @@ take-step-spec = tie.close (tie.spec
     (λ c. let s = c .before .before .before .before .before .before .before .before .before .before .before .before .before .before .before .before .before .before .before .before .before in
     let bring-up = c .before .before .before .before .before .before .before .before .before .before .before .bring-up in
     let copy-bytes = c .before .before .before .before .before .before .copy-bytes in
-    let copy-words = c .before .before .copy-words in
-    (copy-words .ensures, (bring-up .ensures, copy-bytes .ensures ∙ ap (λ (vs : List ℕ). sets (now (s .args .verdicts)) (length (now (s .args .counts)) * s .args .k) vs) (bytes-are (now (s .args .rules)) (now (s .args .counts)) (now (s .args .next)) (now (s .args .bytes)) (room-for-bytes _ _ _ _ _ _ _ _ (s .pre .1 .0)) (bring-up .ensures))))))
+    let copy-words = c .before .before .copy-words in (
+      copy-words .ensures,
+      (
+        bring-up .ensures,
+        copy-bytes .ensures ∙ ap (λ (vs : List ℕ). sets (now (s .args .verdicts))
+            (length (now (s .args .counts)) * s .args .k) vs) (bytes-are (now (s .args .rules)) (now (s .args .counts)) (now
+            (s .args .next)) (now (s .args .bytes)) (room-for-bytes _ _ _ _ _ _ _ _ (s .pre .1 .0)) (bring-up .ensures)),
+      ),
+    )))

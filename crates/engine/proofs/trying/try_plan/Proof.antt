@@ -12,17 +12,20 @@ try-plan-spec = tie.close (tie.spec
     (λ c. let s = c .before .before .before .before .before .before .before .before .before .before in
     let begin = c .before .before .before .begin in
     let answer = c .before .answer in
-    trial-refused (now (s .args .rules)) (now (s .args .counts)) (now (s .args .pool)) (now (s .args .steps)) (now (s .args .table)) (now (s .args .verdicts)) (begin .ensures) (answer .given .1))
+    trial-refused (now (s .args .rules)) (now (s .args .counts)) (now (s .args .pool)) (now (s .args .steps)) (now
+    (s .args .table)) (now (s .args .verdicts)) (begin .ensures) (answer .given .1))
     (λ c. search needs)
     (λ c κs. let s = c .before .before .before .before .before .before .before .before .before .before in
     let begin = c .before .before .before .begin in
     let enum-told = c .before .enum-told in
-    pool-fits (now (s .args .rules)) (now (s .args .counts)) (now (s .args .pool)) (now (s .args .steps)) (now (s .args .table)) (now (s .args .verdicts)) (begin .ensures) (enum-told .given .1))
+    pool-fits (now (s .args .rules)) (now (s .args .counts)) (now (s .args .pool)) (now (s .args .steps)) (now
+    (s .args .table)) (now (s .args .verdicts)) (begin .ensures) (enum-told .given .1))
     (λ c κs. let s = c .before .before .before .before .before .before .before .before .before .before .before .before .before .before .before in
     let begin = c .before .before .before .before .before .before .before .before .begin in
     let enum-told = c .before .before .before .before .before .before .enum-told in
     let copy-words = c .before .before .before .before .copy-words in
-    trial-begun (now (s .args .rules)) (now (s .args .counts)) (now (s .args .pool)) (now (s .args .steps)) (now (s .args .table)) (now (s .args .verdicts)) (begin .ensures) (enum-told .given .1) (copy-words .ensures))
+    trial-begun (now (s .args .rules)) (now (s .args .counts)) (now (s .args .pool)) (now (s .args .steps)) (now
+    (s .args .table)) (now (s .args .verdicts)) (begin .ensures) (enum-told .given .1) (copy-words .ensures))
     (λ c. search needs)
     (λ c. search needs)
     (λ c. let s = c .before .before .before .before .before .before .before .before .before .before .before .before .before .before .before .before .before .before .before .before in
@@ -30,4 +33,6 @@ try-plan-spec = tie.close (tie.spec
     let enum-told = c .before .before .before .before .before .before .before .before .before .before .before .enum-told in
     let copy-words = c .before .before .before .before .before .before .before .before .before .copy-words in
     let run-steps = c .before .before .before .before .run-steps in
-    trial-done (now (s .args .rules)) (now (s .args .counts)) (now (s .args .pool)) (now (s .args .steps)) (now (s .args .table)) (now (s .args .verdicts)) (begin .ensures) (enum-told .given .1) (copy-words .ensures) (run-steps .ensures)))
+    trial-done (now (s .args .rules)) (now (s .args .counts)) (now (s .args .pool)) (now (s .args .steps)) (now
+    (s .args .table)) (now (s .args .verdicts)) (begin .ensures) (enum-told .given .1) (copy-words .ensures)
+    (run-steps .ensures)))

@@ -32,8 +32,15 @@ write-verdicts-spec = tie.close (tie.spec
     omega (arith, loop-test .taken, s .pre .1 .0 .0, loop .inv .len))
     (λ c κs. let s = c .before .before .before .before .before .before .before .before .before .before .before in
     let loop = c .before .before .before .before .before .loop in
-    let loop-test = c .before .before .before .before .loop-test in
-    ((write-rule _ _ _ _ _ (s .pre .0 .0) (loop .inv) (loop-test .taken) (rule-is _ _ (loop .inv .walked) (loop-test .taken) refl), s .pre .0 .1), write-there _ _ _ _ _ (s .pre .0 .0) (loop .inv) (loop-test .taken) (rule-is _ _ (loop .inv .walked) (loop-test .taken) refl) (s .pre .1 .1)))
+    let loop-test = c .before .before .before .before .loop-test in (
+      (
+        write-rule _ _ _ _ _ (s .pre .0 .0) (loop .inv) (loop-test .taken) (rule-is _ _ (loop .inv .walked)
+            (loop-test .taken) refl),
+        s .pre .0 .1,
+      ),
+      write-there _ _ _ _ _ (s .pre .0 .0) (loop .inv) (loop-test .taken)
+          (rule-is _ _ (loop .inv .walked) (loop-test .taken) refl) (s .pre .1 .1),
+    ))
     (λ c. let s = c .before .before .before .before .before .before .before .before .before .before .before .before in
     let loop = c .before .before .before .before .before .before .loop in
     let loop-test = c .before .before .before .before .before .loop-test in
@@ -44,6 +51,7 @@ write-verdicts-spec = tie.close (tie.spec
     let loop = c .before .before .before .before .before .before .loop in
     let loop-test = c .before .before .before .before .before .loop-test in
     let byte-of = c .byte-of in
-    write-more _ _ _ _ _ (s .pre .0 .0) (loop .inv) (loop-test .taken) (rule-is _ _ (loop .inv .walked) (loop-test .taken) refl) (byte-of .ensures) refl)
+    write-more _ _ _ _ _ (s .pre .0 .0) (loop .inv) (loop-test .taken) (rule-is _ _ (loop .inv .walked)
+    (loop-test .taken) refl) (byte-of .ensures) refl)
     (λ c. c .before .loop .inv .len)
     (λ c. write-end _ _ _ _ _ (c .before .loop .inv) (c .loop-test .left)))

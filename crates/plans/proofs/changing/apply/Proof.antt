@@ -19,7 +19,8 @@ apply-spec = tie.close (tie.spec
     let step-place = c .before .before .before .before .before .before .before .step-place in
     let found = c .before .before .before .before .before .found in
     let put-step = c .before .before .put-step in
-    apply-done (now (s .args .table)) (now (s .args .step)) (step-place .ensures) (now (s .args .out)) (found .given .1) (put-step .ensures .0) (put-step .ensures .1))
+    apply-done (now (s .args .table)) (now (s .args .step)) (step-place .ensures) (now (s .args .out)) (found .given .1)
+    (put-step .ensures .0) (put-step .ensures .1))
     (λ c. let s = c .before .before .before .before .before .before .before in
     let step-place = c .before .before .before .step-place in
     let found2 = c .before .found2 in

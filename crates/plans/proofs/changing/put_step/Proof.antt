@@ -29,7 +29,8 @@ put-step-spec = tie.close (tie.spec
     let row-at = c .before .before .before .before .before .before .row-at in
     let columns-of = c .before .before .before .before .before .columns-of in
     let splice = c .before .before .splice in
-    writes-after _ _ (s .pre) (set-is _ _ (s .pre) (step-row .ensures) (if1 .taken) (row-at .ensures) (columns-of .ensures)) (now (s .args .out)) (splice .ensures .0) (splice .ensures .1))
+    writes-after _ _ (s .pre) (set-is _ _ (s .pre) (step-row .ensures) (if1 .taken) (row-at .ensures)
+    (columns-of .ensures)) (now (s .args .out)) (splice .ensures .0) (splice .ensures .1))
     (λ c. omega (arith, step-words _ _ (c .before .before .before .before .before .before .before .pre)))
     (λ c κs. search needs)
     (λ c. sym (ap length (c .before .columns-of2 .ensures)))
@@ -42,7 +43,8 @@ put-step-spec = tie.close (tie.spec
     let if2 = c .before .before .before .before .before .before .if2 in
     let columns-of2 = c .before .before .before .before .before .columns-of2 in
     let splice2 = c .before .before .splice2 in
-    writes-after _ _ (s .pre) (add-is _ _ (s .pre) (step-row .ensures) (if1 .left) (if2 .taken) (columns-of2 .ensures)) (now (s .args .out)) (splice2 .ensures .0) (splice2 .ensures .1))
+    writes-after _ _ (s .pre) (add-is _ _ (s .pre) (step-row .ensures) (if1 .left) (if2 .taken) (columns-of2 .ensures))
+    (now (s .args .out)) (splice2 .ensures .0) (splice2 .ensures .1))
     (λ c. refl)
     (λ c. let s = c .before .before .before .before .before .before .before .before .before in
     let if2 = c .before .if2 in
@@ -55,4 +57,5 @@ put-step-spec = tie.close (tie.spec
     let if1 = c .before .before .before .before .before .before .before .if1 in
     let if2 = c .before .before .before .before .before .if2 in
     let splice3 = c .before .before .splice3 in
-    writes-after _ _ (s .pre) (remove-is _ _ (s .pre) (if1 .left) (if2 .left)) (now (s .args .out)) (splice3 .ensures .0) (splice3 .ensures .1)))
+    writes-after _ _ (s .pre) (remove-is _ _ (s .pre) (if1 .left) (if2 .left)) (now (s .args .out)) (splice3 .ensures .0)
+    (splice3 .ensures .1)))

@@ -14,8 +14,11 @@ splice-spec = tie.close (tie.spec
     (λ c. search needs)
     (λ c. search needs)
     (λ c. let s = c .before .before .before .before in
-    let if1 = c .if1 in
-    (splice-short (now (s .args .table)) (s .args .before) (now (s .args .middle)) (s .args .behind) (s .pre .0) (s .pre .1) (now (s .args .out)) (if1 .taken), refl))
+    let if1 = c .if1 in (
+      splice-short (now (s .args .table)) (s .args .before) (now (s .args .middle)) (s .args .behind) (s .pre .0)
+          (s .pre .1) (now (s .args .out)) (if1 .taken),
+      refl,
+    ))
     (λ c. let s = c .before .before .before .before .before .before in
     sym (length-take-le _ (now (s .args .table)) (s .pre .0)))
     (λ c κs. let s = c .before .before .before .before .before .before in
@@ -38,5 +41,10 @@ splice-spec = tie.close (tie.spec
     let if1 = c .before .before .before .before .before .before .before .before .before .before .before .before .before .before .if1 in
     let copy-to = c .before .before .before .before .before .before .before .before .before .before .before .copy-to in
     let copy-to2 = c .before .before .before .before .before .before .before .copy-to2 in
-    let copy-to3 = c .before .before .copy-to3 in
-    (splice-fits (now (s .args .table)) (s .args .before) (now (s .args .middle)) (s .args .behind) (s .pre .0) (s .pre .1) (now (s .args .out)) (if1 .left), splice-words (now (s .args .table)) (s .args .before) (now (s .args .middle)) (s .args .behind) (s .pre .0) (s .pre .1) (now (s .args .out)) (if1 .left) (copy-to .ensures) (copy-to2 .ensures) (copy-to3 .ensures))))
+    let copy-to3 = c .before .before .copy-to3 in (
+      splice-fits (now (s .args .table)) (s .args .before) (now (s .args .middle)) (s .args .behind) (s .pre .0)
+          (s .pre .1) (now (s .args .out)) (if1 .left),
+      splice-words (now (s .args .table)) (s .args .before) (now
+          (s .args .middle)) (s .args .behind) (s .pre .0) (s .pre .1) (now (s .args .out)) (if1 .left) (copy-to .ensures)
+          (copy-to2 .ensures) (copy-to3 .ensures),
+    )))

@@ -29,7 +29,8 @@ step-place-spec = tie.close (tie.spec
     let step-row = c .before .before .before .step-row in
     let is-there = c .before .is-there in
     let if2 = c .if2 in
-    row-missing (now (s .args .table)) (now (s .args .step)) (is-step .ensures) (if1 .left) (step-row .ensures) (is-there .ensures) (if2 .taken))
+    row-missing (now (s .args .table)) (now (s .args .step)) (is-step .ensures) (if1 .left) (step-row .ensures)
+    (is-there .ensures) (if2 .taken))
     (λ c κs. search needs)
     (λ c. let s = c .before .before .before .before .before .before .before .before .before .before .before in
     let is-step = c .before .before .before .before .before .before .before .before .is-step in
@@ -39,7 +40,8 @@ step-place-spec = tie.close (tie.spec
     let if2 = c .before .before .if2 in
     let has-under = c .before .has-under in
     let if3 = c .if3 in
-    rows-under (now (s .args .table)) (now (s .args .step)) (is-step .ensures) (if1 .left) (step-row .ensures) (is-there .ensures) (if2 .left) (has-under .ensures) (if3 .taken))
+    rows-under (now (s .args .table)) (now (s .args .step)) (is-step .ensures) (if1 .left) (step-row .ensures)
+    (is-there .ensures) (if2 .left) (has-under .ensures) (if3 .taken))
     (λ c. let s = c .before .before .before .before .before .before .before .before .before .before .before in
     let is-step = c .before .before .before .before .before .before .before .before .is-step in
     let if1 = c .before .before .before .before .before .before .before .if1 in
@@ -49,4 +51,5 @@ step-place-spec = tie.close (tie.spec
     let if2 = c .before .before .if2 in
     let has-under = c .before .has-under in
     let if3 = c .if3 in
-    step-passes (now (s .args .table)) (now (s .args .step)) (is-step .ensures) (if1 .left) (step-row .ensures) (is-there .ensures) (if2 .left) (has-under .ensures) (if3 .left) (place-for .ensures)))
+    step-passes (now (s .args .table)) (now (s .args .step)) (is-step .ensures) (if1 .left) (step-row .ensures)
+    (is-there .ensures) (if2 .left) (has-under .ensures) (if3 .left) (place-for .ensures)))
