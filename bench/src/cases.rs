@@ -1,12 +1,13 @@
 //! The cases, in the order in which they are printed.
 
 use gabzeril_tests::checker::{rows_of, words_of, POOL, ROW_WORDS, RULE};
+use gabzeril_tests::largest;
 
 use crate::calls::Call;
 use crate::inputs::{
-    all_in_one_chain, children_in_one_chain, deep, devices, early, gathered, late, names_in_one_chain,
-    one_device, path, places_in_one_chain, roots, roots_in_one_chain, rule_book, with_no_parent,
-    with_wrong_depth, with_wrong_depths, A, B, C,
+    all_in_one_chain, children_in_one_chain, deep, devices, devices_of_nines, devices_of_ten_digits, early,
+    gathered, late, names_in_one_chain, one_device, path, places_in_one_chain, roots, roots_in_one_chain,
+    rule_book, with_no_parent, with_wrong_depth, with_wrong_depths, A, B, C,
 };
 use crate::trial;
 
@@ -95,7 +96,23 @@ pub fn all() -> Vec<Case> {
     }
     of_the_rule_book(&mut cases);
     trial::add_cases(&mut cases);
+    of_digits(&mut cases);
     cases
+}
+
+/// Writing of numbers with many digits, and with the largest digits.
+fn of_digits(cases: &mut Vec<Case>) {
+    for rows in [64, 1_020] {
+        let mut add = |table: Vec<u32>, values: &str| {
+            cases.push(case(Call::WritePool { table }, format!("{THREE_ROWS}, values of {values}"), rows));
+        };
+        add(devices_of_ten_digits(rows), "ten digits");
+        add(devices_of_nines(rows), "nines");
+    }
+    // The check of a long rule takes far more than its writing.
+    for (rule, on) in [(B.to_vec(), "rule B"), (largest::longest_rule(), "longest rule, 128 entries")] {
+        cases.push(case(Call::WriteRule { rule }, on, 0));
+    }
 }
 
 /// The calls on a set beside those on each of its rules.

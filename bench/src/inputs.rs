@@ -42,6 +42,26 @@ pub fn under(parent: &Row, at: u32, name: u32, value: u32) -> Row {
     Row { device: parent.device, at, up: parent.at, deep: parent.deep + 1, name, value }
 }
 
+/// The rows of `devices(rows, 1)` with values of ten digits, close to the largest.
+pub fn devices_of_ten_digits(rows: u32) -> Vec<u32> {
+    let mut table = rows_of(&devices(rows, 1));
+    for (value, row) in (2_147_480_000..).zip(&mut table) {
+        row.value = value;
+    }
+    words_of(&table)
+}
+
+/// The rows of `devices(rows, 1)` with nines as every value. Siblings have names of their own, as none may be
+/// equal.
+pub fn devices_of_nines(rows: u32) -> Vec<u32> {
+    let mut table = rows_of(&devices(rows, 1));
+    for row in &mut table {
+        row.name = if row.is_root() { row.device } else { row.at };
+        row.value = 999_999_999;
+    }
+    words_of(&table)
+}
+
 /// One device: a root, its mode, interfaces, addresses under them and leaves under those, each interface
 /// followed by what hangs under it. With 1,021 rows: 300 interfaces, 360 addresses, 359 leaves.
 pub fn one_device(rows: u32) -> Vec<u32> {
@@ -294,6 +314,8 @@ mod tests {
         for rows in [64, 256, 512, 1_020, 1_021, 1_024] {
             let tables = [
                 devices(rows, 1),
+                devices_of_ten_digits(rows),
+                devices_of_nines(rows),
                 one_device(rows),
                 gathered(rows),
                 roots(rows, 1),
@@ -320,6 +342,13 @@ mod tests {
         for rule in [&A[..], &B, &C, &early()] {
             assert_eq!(check_rule(rule), Answer::Done(rule.len() / 4));
         }
+    }
+
+    #[test]
+    fn digits_are_as_described() {
+        let all = |table: Vec<u32>, test: fn(u32) -> bool| rows_of(&table).iter().all(|row| test(row.value));
+        assert!(all(devices_of_ten_digits(1_024), |value| value >= 1_000_000_000));
+        assert!(all(devices_of_nines(1_024), |value| value == 999_999_999));
     }
 
     #[test]

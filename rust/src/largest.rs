@@ -219,6 +219,18 @@ fn step(kind: u32, row: &Row) -> [u32; STEP_WORDS] {
     [kind, device, at, up, deep, name, value]
 }
 
+/// The accepted rule with the longest file: one quantifier, then connectives, each with a comparison to its
+/// left. No other kind has longer lines.
+pub fn longest_rule() -> Vec<u32> {
+    let mut rule = vec![5, 1, 0, MOST_NAME];
+    while rule.len() / ENTRY_WORDS + 2 < MOST_ENTRIES {
+        let place = (rule.len() / ENTRY_WORDS) as u32;
+        rule.extend([2, place + 1, place + 2, 0, 9, 0, 1, MOST_VALUE]);
+    }
+    rule.extend([9, 0, 1, MOST_VALUE]);
+    rule
+}
+
 /// The accepted pool with the longest file: every word has as many digits as it can. Each row hangs under the
 /// one before, so that none is less deep than it might be.
 pub fn longest_pool() -> Vec<u32> {
@@ -243,6 +255,7 @@ mod tests {
         for rule in rules() {
             assert_eq!(check_rule(&rule), Answer::Done(rule.len() / 4));
         }
+        assert_eq!(check_rule(&longest_rule()), Answer::Done(MOST_ENTRIES));
         for set in sets() {
             assert_eq!(check_set(&set.rules, &set.counts), Answer::Done(MOST_RULES));
         }

@@ -377,7 +377,7 @@ fn files_fit_their_buffers() {
         assert!(bytes(RULE, &words) <= bytes(RULE, &longest_entry()), "{words:?}");
     }
     let numbers = numbers_of_header();
-    for rule in largest::rules().into_iter().chain([longest_rule()]) {
+    for rule in largest::rules().into_iter().chain([largest::longest_rule()]) {
         let mut file = vec![0; numbers["RULE_FILE_BYTES"] as usize];
         assert_eq!(checker::write_rule(&rule, &mut file), Answer::Done(bytes(RULE, &rule)));
     }
@@ -386,17 +386,6 @@ fn files_fit_their_buffers() {
     let fewer = 4 + 4 * MOST_ROWS - digits_of_deep;
     let mut file = vec![0; numbers["POOL_FILE_BYTES"] as usize];
     assert_eq!(checker::write_pool(&largest::longest_pool(), &mut file), Answer::Done(file.len() - fewer));
-}
-
-/// One quantifier, then connectives, each with a comparison to its left: no other kind has longer lines.
-fn longest_rule() -> Vec<u32> {
-    let mut rule = vec![5, 1, 0, MOST_NAME];
-    while rule.len() / ENTRY_WORDS + 2 < MOST_ENTRIES {
-        let place = (rule.len() / ENTRY_WORDS) as u32;
-        rule.extend([2, place + 1, place + 2, 0, 9, 0, 1, MOST_VALUE]);
-    }
-    rule.extend([9, 0, 1, MOST_VALUE]);
-    rule
 }
 
 /// Texts whose numbers all have as many digits as they can.

@@ -1,24 +1,25 @@
 -- The program's text has at most 64 bytes. Assumes nothing.
-use Prim.Native.Nat.{ℕ, zero, suc, _+_, _*_, _/_, _%_, _^_, _≤_, _<_}
+use Prim.Native.Nat.{ℕ, zero, suc, _+_, _*_, _^_, _≤_, _<_}
 use mathlib.Core.Path.{_≡_, refl, ap}
 use mathlib.Core.Bool.{Bool, true, false, cond}
-use mathlib.Core.List.{List, [], _∷_, _++_}
-use native.Mathlib.Nat.{pow-succ', mul-add}
+use mathlib.Core.List.{List, [], _∷_}
+use native.Mathlib.Nat.{mul-add}
 use native.Mathlib.Numerals.{add-one}
 use native.Mathlib.Omega.{arith}
 use lib.ListN.{length, drop, length-append}
-use lib.Dec.{ltb, leb}
-use borrow.Author.Tests.{ltb-false, le-leb}
+use lib.Dec.{leb}
+use borrow.Author.Tests.{le-leb}
 use Rattle.base.specs.Search.{sumBelow}
 use Rattle.tables.specs.Answers.{isDone, andThen, unless, value, output}
 use Rattle.tables.specs.Words.{rowCount, rows, rowAt}
 use Rattle.tables.specs.Rules.{checkRule, acceptedRule}
 use Rattle.tables.specs.Tables.{rowLimit, checkTable, acceptedTable}
-use Rattle.tables.specs.Files.{countNames, refusalNames, digitByte, digitsUpTo, numberText, byteAfter, nextColumn, textFrom, writeText, checkFile, countWords, refusalWords}
+use Rattle.tables.specs.Files.{countNames, refusalNames, numberText, byteAfter, nextColumn, textFrom, writeText, checkFile, countWords, refusalWords}
 use Rattle.tables.specs.declared.Answer.{Answer}
 use Rattle.tables.specs.declared.Answer.the-variants.{Done, Refused}
 use Rattle.tables.proofs.Answers.{andThen-first, andThen-next, unless-next}
 use Rattle.tables.proofs.Accepted.{few-rows}
+use Rattle.tables.proofs.Digits.{digits-few}
 use Rattle.logic.specs.Formulas.{formula}
 use Rattle.logic.specs.Verdict.{verdict}
 use Rattle.checker.specs.Files.{ruleOf, poolOf, ruleFile, poolFile}
@@ -27,18 +28,6 @@ use Rattle.checker.specs.Report.{fileLimit, sized, reportAnswer, begins,
 use Rattle.checker.proofs.Sizes.{Small, small-then, small-rule-file, small-pool-file, small-sized}
 use Rattle.checker.proofs.OwnRows.{count-few}
 use Rattle.checker.proofs.Marks.{marked-few, one-few}
-
-digits-few : (m n w : ℕ) → w < 10 ^ suc n → length (digitsUpTo m w) ≤ suc n
-unfolding digitsUpTo
-digits-few zero n w h = omega arith
-digits-few (suc m) n w h = go (λ k. digits-few m k (w / 10)) n h (ltb w 10) refl
-  where
-    go : ((k : ℕ) → w / 10 < 10 ^ suc k → length (digitsUpTo m (w / 10)) ≤ suc k) → (n : ℕ) → w < 10 ^ suc n → (b : Bool) → ltb w 10 ≡ b → length (cond b (digitByte w ∷ []) (digitsUpTo m (w / 10) ++ (digitByte (w % 10) ∷ []))) ≤ suc n
-    go ih n h true e = omega arith
-    go ih zero h false e = absurd (omega (arith, ltb-false w 10 e))
-    go ih (suc n) h false e =
-        let p : 10 ^ suc (suc n) ≡ 10 * 10 ^ suc n = pow-succ' 10 (suc n) in
-        omega (arith, length-append (digitsUpTo m (w / 10)) (digitByte (w % 10) ∷ []), ih n (omega arith))
 
 -- a number of at most n + 1 digits, the byte after it, and the rest
 number-few : (k c w : ℕ) (ws : List ℕ) (n : ℕ) → w < 10 ^ suc n → length (textFrom k c (w ∷ ws)) ≤ suc n + 1 + length (textFrom k (nextColumn k c) ws)

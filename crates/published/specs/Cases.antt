@@ -1,5 +1,6 @@
--- 01's worked pools (a) to (l), the reductions that lose a verdict, readings over roots, sets of rules, plans, and a table on which the
--- published meaning is not that of rows: the rows of one table, with one test over all of them, proved in proofs/Cases. Assumes nothing.
+-- 01's worked pools (a) to (l), numbers of every width, the reductions that lose a verdict, readings over roots, sets of rules, plans, and
+-- a table on which the published meaning is not that of rows: the rows of one table, with one test over all of them, proved in
+-- proofs/Cases. Assumes nothing.
 use Prim.Native.Nat.{ℕ, zero, suc, _+_, _-_, _*_}
 use mathlib.Core.Path.{_≡_}
 use mathlib.Core.Bool.{Bool, true, false, not, cond, _&&_}
@@ -12,6 +13,7 @@ use Rattle.tables.specs.Words.{rows, rowCount}
 use Rattle.tables.specs.Rules.{one, checkRule, acceptedRule}
 use Rattle.tables.specs.Tables.{checkTable}
 use Rattle.tables.specs.Joining.{joinAnswer, joinPool}
+use Rattle.tables.specs.Files.{countNames, digitByte, writeCounts, writeCountsOut}
 use Rattle.tables.specs.declared.Row.{Row}
 use Rattle.tables.specs.declared.Answer.{Answer}
 use Rattle.tables.specs.declared.Answer.the-variants.{Done, Refused}
@@ -128,6 +130,16 @@ removeStep device at = 3 ∷ row device at 9 9 9 9
 abbrev pub secondServer : List ℕ
 secondServer = addStep 4 1 0 0 1 14 ++ addStep 4 2 1 1 2 2 ++ setStep 1 2 1 ++ removeStep 1 3
 
+-- the digits of the least and of the largest number of n + 1 digits; digits with the byte after them
+abbrev pub least : ℕ → List ℕ
+least n = 1 ∷ replicate n 0
+
+abbrev pub largest : ℕ → List ℕ
+largest n = replicate (suc n) 9
+
+abbrev pub shown : List ℕ → ℕ → List ℕ
+shown digits after = map digitByte digits ++ after ∷ []
+
 -- ---- what a case gives and expects
 -- a row by (device, at)
 abbrev pub key : ℕ → ℕ → List ℕ
@@ -144,6 +156,8 @@ pub data Case : Type 0 where
   ruleChecked : List ℕ → Answer → Case
   tableChecked : List ℕ → Answer → Case
   joins : List ℕ → List ℕ → Answer → Case
+  -- words, written as the program's counts: the bytes after the line of names
+  writes : List ℕ → List ℕ → Case
   -- what the checks of a set answer; rules, counts, pool: the bytes; rules, counts, mode, table: the rows sent
   setChecked : List ℕ → List ℕ → Answer → Case
   setJudged : List ℕ → List ℕ → List ℕ → List ℕ → Case
@@ -197,6 +211,11 @@ right (tableChecked table answer) = sameAnswer (checkTable table) answer
 right (joins s t answer) =
     sameAnswer (joinAnswer (s ++ buffer (length t)) (length s) t) answer
     && sameWords (joinPool (s ++ buffer (length t)) (length s) t) (s ++ cond (isDone answer) t (buffer (length t)))
+right (writes words bytes) =
+    let file = countNames ++ bytes in
+    sameAnswer (writeCounts words (length file)) (Done (length file))
+    && sameAnswer (writeCounts words (length file - 1)) (Refused 17 0)
+    && sameWords (writeCountsOut words (buffer (length file + 1))) (file ++ buffer 1)
 right (setChecked rules counts answer) = sameAnswer (checkSet rules counts) answer
 right (setJudged rules counts pool bytes) =
     sameAnswer (setVerdictsAnswer rules counts pool (length counts)) (Done (length bytes))
@@ -259,6 +278,14 @@ cases =
     ∷ ruleChecked (nested 0 7) (Refused 6 6)
     -- those side by side do not count
     ∷ ruleChecked (beside 0 6) (Done 20)
+    -- numbers of every width, the first and the last of each, and the largest: five to a line
+    ∷ writes
+    (0 ∷ 9 ∷ 10 ∷ 99 ∷ 100 ∷ 999 ∷ 1000 ∷ 9999 ∷ 10000 ∷ 99999 ∷ 100000 ∷ 999999 ∷ 1000000 ∷ 9999999 ∷ 10000000
+    ∷ 99999999 ∷ 100000000 ∷ 999999999 ∷ 1000000000 ∷ 4294967295 ∷ [])
+    (shown (0 ∷ []) 32 ++ shown (largest 0) 32 ++ shown (least 1) 32 ++ shown (largest 1) 32 ++ shown (least 2) 10
+    ++ shown (largest 2) 32 ++ shown (least 3) 32 ++ shown (largest 3) 32 ++ shown (least 4) 32 ++ shown (largest 4) 10
+    ++ shown (least 5) 32 ++ shown (largest 5) 32 ++ shown (least 6) 32 ++ shown (largest 6) 32 ++ shown (least 7) 10
+    ++ shown (largest 7) 32 ++ shown (least 8) 32 ++ shown (largest 8) 32 ++ shown (least 9) 32 ++ shown (4 ∷ 2 ∷ 9 ∷ 4 ∷ 9 ∷ 6 ∷ 7 ∷ 2 ∷ 9 ∷ 5 ∷ []) 10)
     -- (l)
     ∷ joins D2 D1 (Refused 16 0)
     ∷ joins D1 D2 (Done 30)

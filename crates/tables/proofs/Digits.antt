@@ -1,9 +1,9 @@
--- The text of a number: its last digit, and its length. Assumes nothing.
+-- The text of a number: its last digit, its length, and its digits from the front. Assumes nothing.
 use Prim.Native.Nat.{ℕ, zero, suc, _+_, _*_, _/_, _%_, _^_, _≤_, _<_}
-use mathlib.Core.Path.{_≡_, sym, ap, _∙_}
+use mathlib.Core.Path.{_≡_, refl, sym, ap, _∙_}
 use mathlib.Core.Bool.{Bool, true, false, cond}
 use mathlib.Core.List.{List, [], _∷_, _++_}
-use native.Mathlib.Nat.{pow-succ'}
+use native.Mathlib.Nat.{zero-add, pow-succ', one-le-pow}
 use native.Mathlib.Omega.{arith}
 use lib.ListN.{length, length-append}
 use lib.Dec.{ltb}
@@ -51,7 +51,59 @@ digits-le (suc n) w = go (digits-le n (w / 10)) (ltb w 10)
 pub text-le : (w : ℕ) → length (numberText w) ≤ 10
 text-le w = digits-le 10 w
 
-pub text-pos : (v : ℕ) → v ≤ numberLimit → 1 ≤ length (numberText v)
-text-pos v m = either (ltb v 10)
-    (λ e. omega (arith, length-one v (ltb-true v 10 e)))
-    (λ e. omega (arith, length-div v (ltb-false v 10 e) m))
+pub digits-few : (m n w : ℕ) → w < 10 ^ suc n → length (digitsUpTo m w) ≤ suc n
+unfolding digitsUpTo
+digits-few zero n w h = omega arith
+digits-few (suc m) n w h = go (λ k. digits-few m k (w / 10)) n h (ltb w 10) refl
+  where
+    go : ((k : ℕ) → w / 10 < 10 ^ suc k → length (digitsUpTo m (w / 10)) ≤ suc k) → (n : ℕ) → w < 10 ^ suc n
+        → (b : Bool) → ltb w 10 ≡ b → length (cond b (digitByte w ∷ []) (digitsUpTo m (w / 10) ++ (digitByte (w % 10) ∷ []))) ≤ suc n
+    go ih n h true e = omega arith
+    go ih zero h false e = absurd (omega (arith, ltb-false w 10 e))
+    go ih (suc n) h false e =
+        let p : 10 ^ suc (suc n) ≡ 10 * 10 ^ suc n = pow-succ' 10 (suc n) in
+        omega (arith, length-append (digitsUpTo m (w / 10)) (digitByte (w % 10) ∷ []), ih n (omega arith))
+
+digits-pos : (n w : ℕ) → 1 ≤ length (digitsUpTo (suc n) w)
+unfolding digitsUpTo
+digits-pos n w = go (ltb w 10)
+  where
+    go : (b : Bool) → 1 ≤ length (cond b (digitByte w ∷ []) (digitsUpTo n (w / 10) ++ (digitByte (w % 10) ∷ [])))
+    go true = omega arith
+    go false = omega (arith, length-append (digitsUpTo n (w / 10)) (digitByte (w % 10) ∷ []))
+
+pub text-pos : (w : ℕ) → 1 ≤ length (numberText w)
+text-pos w = digits-pos 9 w
+
+-- ---- the powers of ten that a number reaches are its digits but one
+pub reach-over : (n w : ℕ) → w ≤ numberLimit → 10 ^ n ≤ w → n < length (numberText w)
+reach-over zero w m h = text-pos w
+reach-over (suc n) w m h =
+    let p : 10 ^ suc n ≡ 10 * 10 ^ n = pow-succ' 10 n in
+    let q : 1 ≤ 10 ^ n = one-le-pow n 10 (omega arith) in
+    omega (arith, reach-over n (w / 10) (omega arith) (omega arith), length-div w (omega arith) m)
+
+pub reach-under : (n w : ℕ) → 0 < n → w < 10 ^ n → length (numberText w) ≤ n
+reach-under zero w z h = absurd (omega arith)
+reach-under (suc n) w z h = digits-few 10 n w h
+
+pub reach-at : (n w : ℕ) → w ≤ numberLimit → n < length (numberText w) → 0 < n → 10 ^ n ≤ w
+reach-at n w m l z = either (ltb w (10 ^ n))
+    (λ e. absurd (omega (arith, reach-under n w z (ltb-true w (10 ^ n) e))))
+    (λ e. ltb-false w (10 ^ n) e)
+
+pub reach-top : (w : ℕ) → w ≤ numberLimit → w < 10 ^ length (numberText w)
+reach-top w m = either (ltb w (10 ^ length (numberText w)))
+    (λ e. ltb-true w (10 ^ length (numberText w)) e)
+    (λ e. absurd (omega (arith, reach-over (length (numberText w)) w m (ltb-false w (10 ^ length (numberText w)) e))))
+
+-- ---- digits from the front: the text of the number that they make, nothing before the first
+abbrev pub soFar : ℕ → List ℕ
+soFar u = cond (ltb 0 u) (numberText u) []
+
+pub so-far : (u : ℕ) → 0 < u → soFar u ≡ numberText u
+so-far u h = rw (lt-ltb 0 u h)
+
+pub text-more : (u d : ℕ) → d < 10 → withDigit u d ≤ numberLimit → numberText (withDigit u d) ≡ soFar u ++ (digitByte d ∷ [])
+text-more zero d h m = ap numberText (zero-add d) ∙ text-one d h
+text-more (suc u) d h m = text-grow (suc u) d (omega arith) h m ∙ sym (ap (λ (l : List ℕ). l ++ (digitByte d ∷ [])) (so-far (suc u) (omega arith)))

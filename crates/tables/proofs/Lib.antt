@@ -28,3 +28,5 @@ pub mod Trips
 pub mod WriteAnswers
 pub mod WriteBack
 pub mod Writes
+pub mod Numbers
+pub mod Measures

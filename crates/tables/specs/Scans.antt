@@ -1,9 +1,10 @@
 -- What the private contracts of reading and writing files cite besides specs/Files.antt. Assumes nothing.
 use Prim.Native.Nat.{ℕ, _+_, _≤_, _<_}
-use mathlib.Core.Bool.{cond}
+use mathlib.Core.Bool.{Bool, cond}
 use mathlib.Core.List.{List, [], _∷_}
 use lib.ListN.{length, set}
 use lib.Dec.{ltb}
+use Rattle.base.specs.Lists.{select}
 use Rattle.tables.specs.Files.{numberLimit, numberText}
 use Rattle.tables.specs.declared.reading.Scan.{Scan}
 
@@ -20,3 +21,10 @@ putOf out s r = cond (ltb (s .count) (r .count)) (set out (s .count) (s .value))
 unfoldable pub textLength : List ℕ → ℕ
 textLength [] = 0
 textLength (w ∷ ws) = length (numberText w) + 1 + textLength ws
+
+-- how many of the words have more than n digits
+abbrev pub isWider : ℕ → ℕ → Bool
+isWider n w = ltb n (length (numberText w))
+
+abbrev pub widerCount : ℕ → List ℕ → ℕ
+widerCount n ws = length (select (isWider n) ws)

@@ -2,42 +2,48 @@
 use super::Answer;
 use super::columns::byte_after;
 use super::columns::next_column;
+use powers::WORD_DIGITS;
+use powers::digit_at;
+use powers::power;
 ghost use mathlib.Core.Path.{_≡_};
 ghost use Prim.Native.Nat.{_+_, _≤_, _<_, _^_, min};
 ghost use lib.ListN.{length};
 ghost use lib.Seq.{sets};
 ghost use Rattle.tables.specs.Files.{numberText, textFrom, writeAnswer, writeOut};
-ghost use Rattle.tables.specs.Scans.{textLength};
+ghost use Rattle.tables.specs.Scans.{widerCount, textLength};
 
 // How many digits a number has.
 fn width(w: u32) -> usize
     ensures { λ r. ⌜ (r ≡ length (numberText w)) × (r ≤ 10) ⌝ }
 {
     let mut n = 1;
-    let mut v = w;
-    while 9 < v {
-        v /= 10;
+    while n < WORD_DIGITS {
+        if w < power(n) {
+            return n;
+        }
         n += 1;
     }
     n
 }
 
-// Puts the digits of w at `at`, and answers the place past them.
+// Puts the digits of w at `at`, the first one first, and answers the place past them. What the powers leave is the last one.
 fn put_number(out: &mut [u8], at: usize, w: u32) -> usize
     requires { ⌜ at + length (numberText w) ≤ length (now out) ⌝ }
     ensures place { λ r. ⌜ r ≡ at + length (numberText w) ⌝ }
     ensures bytes { λ r. ⌜ now (out .exit) ≡ sets (now (out .entry)) at (numberText w) ⌝ }
 {
-    let end = at + width(w);
-    let mut i = end;
+    let mut i = width(w) - 1;
     let mut v = w;
-    while 9 < v {
+    let mut p = at;
+    while 0 < i {
+        let digit = digit_at(v, i);
+        out[p] = b'0' + digit.count as u8;
+        v = digit.rest;
+        p += 1;
         i -= 1;
-        out[i] = b'0' + (v % 10) as u8;
-        v /= 10;
     }
-    out[at] = b'0' + v as u8;
-    end
+    out[p] = b'0' + v as u8;
+    p + 1
 }
 
 // Puts the bytes t at `at`.
@@ -52,21 +58,45 @@ fn put_bytes(out: &mut [u8], at: usize, t: &[u8])
     }
 }
 
-// The bytes that the words take, or room + 1 where that is more: the whole sum may not fit a usize.
+// How many of the words have more than n digits.
+fn count_wider(words: &[u32], n: usize) -> usize
+    requires { ⌜ (0 < n) × (n < 10) ⌝ }
+    ensures { λ r. ⌜ (r ≡ widerCount n (now (words .entry))) × (r ≤ length (now (words .entry))) ⌝ }
+{
+    let least = power(n);
+    let mut count = 0;
+    let mut i = 0;
+    while i < words.len() {
+        count += (least <= words[i]) as usize;
+        i += 1;
+    }
+    count
+}
+
+// The bytes that the words take, or room + 1 where that is more: the whole sum may not fit a usize. Counted by powers, not by numbers,
+// whose widths are found once, where they are written.
 fn text_length(words: &[u32], room: usize) -> usize
     requires { ⌜ room < 2 ^ 63 ⌝ }
     ensures { λ r. ⌜ r ≡ min (textLength (now (words .entry))) (room + 1) ⌝ }
 {
-    let mut n = 0;
-    let mut i = 0;
-    while i < words.len() {
-        n += width(words[i]) + 1;
-        if room < n {
+    // A digit and the byte after it.
+    let mut bytes = 2 * words.len();
+    let mut n = 1;
+    while n < WORD_DIGITS {
+        if room < bytes {
             return room + 1;
         }
-        i += 1;
+        let more = count_wider(words, n);
+        if more == 0 {
+            return bytes;
+        }
+        bytes += more;
+        n += 1;
     }
-    n
+    if room < bytes {
+        return room + 1;
+    }
+    bytes
 }
 
 // Puts the words at `at`, each with the byte after it.

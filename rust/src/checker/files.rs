@@ -61,6 +61,7 @@ impl Format {
         values.filter(|values| values.len() == self.columns)
     }
 
+    /// Numbers are written by Rust's own formatting, apart from the library's way.
     pub fn text_of(&self, words: &[u32]) -> Vec<u8> {
         let mut text = self.first_line.to_string();
         for line in words.chunks(self.columns) {

@@ -12,6 +12,7 @@ mod damaged_rule;
 mod damaged_set;
 mod damaged_table;
 mod depths;
+mod digits;
 mod far_sets;
 mod faults;
 mod known_table;
@@ -42,6 +43,7 @@ pub use damaged_plan::{any_steps, damaged_plan, with_added_row, with_faulty_step
 pub use damaged_rule::{any_rule, damage_rule, damaged_rule, RULE_FAULTS};
 pub use damaged_set::{damage_set, damaged_set, SetFault, SET_FAULTS};
 pub use damaged_table::{any_table, damage_table, damaged_table, TABLE_FAULTS};
+pub use digits::{ends_of_digits, number_up_to, renumbered_rule, renumbered_table, width_of};
 pub use far_sets::{behind_nots, far_apart};
 pub use known_table::KnownTable;
 pub use lengths::{

@@ -4,7 +4,7 @@ use super::*;
 use crate::answer::Answer;
 use crate::checker::{
     accepted_rule, accepted_table, check_rule, check_set, check_table, marks, part, rows_of, set_part, Entry,
-    ENTRY_WORDS, MOST_ENTRIES, MOST_NESTED, MOST_RULES, ROW_WORDS,
+    ENTRY_WORDS, MOST_ENTRIES, MOST_NAME, MOST_NESTED, MOST_RULES, MOST_VALUE, ROW_WORDS,
 };
 use crate::random::Random;
 
@@ -17,6 +17,35 @@ fn rules_and_pools_are_accepted() {
         assert_eq!(check_rule(&rule).number(), 0, "seed {seed}: {rule:?}");
         assert_eq!(check_table(&pool).number(), 0, "seed {seed}: {pool:?}");
     }
+}
+
+#[test]
+fn renumbered_rules_and_pools_are_accepted() {
+    for seed in 0..3_000 {
+        let random = &mut Random::new(seed);
+        let vocabulary = Vocabulary::new(random);
+        let (rule, pool) = (rule(random, &vocabulary), pool(random, &vocabulary));
+        let (other_rule, other_pool) = (renumbered_rule(random, &rule), renumbered_table(random, &pool));
+        assert_eq!(check_rule(&other_rule), check_rule(&rule), "seed {seed}: {other_rule:?}");
+        assert_eq!(check_table(&other_pool), check_table(&pool), "seed {seed}: {other_pool:?}");
+    }
+}
+
+/// Each width comes, the largest number too, and none above it.
+#[test]
+fn numbers_keep_to_their_limit() {
+    for most in [2, 9, 10, 1_023, MOST_NAME, MOST_VALUE, u32::MAX] {
+        let random = &mut Random::new(most.into());
+        let numbers: Vec<u32> = (0..3_000).map(|_| number_up_to(random, most)).collect();
+        assert_eq!(numbers.iter().max(), Some(&most));
+        for width in 1..=width_of(most) {
+            let found = numbers.iter().filter(|&&number| width_of(number) == width).count();
+            assert!(found >= 30, "{found} of width {width} up to {most}");
+        }
+        assert_eq!(ends_of_digits(most).last(), Some(&most));
+    }
+    let ends: Vec<u32> = ends_of_digits(31).into_iter().collect();
+    assert_eq!(ends, [0, 1, 2, 3, 4, 5, 6, 7, 8, 9, 10, 11, 19, 20, 21, 29, 30, 31]);
 }
 
 /// In most rules quantifiers over roots stand around one another, in many also beside one another, and the reading of bodies often makes

@@ -1,28 +1,46 @@
--- `tables::writing::put_number` meets its contract, by the laws of proofs/Writes.antt. Assumes nothing.
-use Prim.Native.Nat.{ℕ, _+_}
-use mathlib.Core.Path.{ap}
-use lib.ListN.{length-set}
+-- `tables::writing::put_number` meets its contract, by the laws of proofs/Numbers.antt. Assumes nothing.
 use native.Mathlib.Omega.{arith}
+use lib.ListN.{length-set}
+use Rattle.tables.proofs.Digits.{text-pos}
+use Rattle.tables.proofs.Numbers.{Placing, place-begin, place-length, place-room, place-more, place-last, place-end}
 use borrow.Author.Needs.{needs}
-use Rattle.tables.proofs.Writes.{Placing, place-begin, place-pos, place-more, place-end}
 use Rattle.tables.proofs.writing.put_number.Statement.{statement}
 use Rattle.tables.proofs.writing.put_number.Tie as tie
 
 pub put-number-spec : {M : Type 1} → statement M
 put-number-spec = tie.close (tie.spec
-    (λ out₀ at w end i₀ v₀ out i v. Placing out₀ at w out i v)
-    (λ out₀ at w end i₀ v₀ out i v. v)
+    (λ out₀ at w i₀ v₀ p₀ out i v p. Placing out₀ at w out i v p)
+    (λ out₀ at w i₀ v₀ p₀ out i v p. i)
     (λ c κs. search needs)
+    (λ c. omega (arith, c .width .ensures .0, text-pos (c .before .before .args .w)))
+    (λ c. let width = c .width in
+    let s = c .before .before in
+    place-begin _ _ _ (omega arith) _ (omega (arith, width .ensures .0, text-pos (s .args .w))))
+    (λ c κs. search needs)
+    (λ c. omega (arith, c .before .digit-at .ensures .1 .nine (c .before .before .before .loop .inv .below)))
+    (λ c. omega (arith, c .before .digit-at .ensures .1 .nine (c .before .before .before .loop .inv .below)))
+    (λ c. let loop = c .before .before .before .loop in
+    let s = c .before .before .before .before .before .before in
+    omega (arith, place-room _ _ _ (omega arith) _ _ _ _ (loop .inv) (s .pre)))
+    (λ c. let loop = c .before .before .before .loop in
+    let s = c .before .before .before .before .before .before in
+    omega (arith, place-room _ _ _ (omega arith) _ _ _ _ (loop .inv) (s .pre)))
+    (λ c. search needs)
     (λ c. omega arith)
-    (λ c. place-begin _ _ _ _ (omega arith) (ap (λ (n : ℕ). c .before .before .args .at + n) (c .width .ensures .0)) (search needs))
-    (λ c. omega (arith, place-pos _ _ _ _ _ _ (c .before .loop .inv)))
-    (λ c. omega arith)
-    (λ c. omega arith)
-    (λ c. omega (arith, place-pos _ _ _ _ _ _ (c .before .loop .inv)))
-    (λ c. omega arith)
-    (λ c. place-more _ _ _ _ _ _ (c .before .loop .inv) (c .loop-test .taken))
-    (λ c. omega arith)
-    (λ c. omega arith)
-    (λ c. omega (arith, place-pos _ _ _ _ _ _ (c .before .loop .inv)))
-    (λ c. simp length-set (c .before .loop .inv .len))
-    (λ c. (ap (λ (n : ℕ). c .before .before .before .before .args .at + n) (c .before .before .width .ensures .0), place-end _ _ _ _ _ _ (c .before .loop .inv) (c .loop-test .left))))
+    (λ c. let loop = c .before .before .before .loop in
+    let loop-test = c .before .before .loop-test in
+    let digit-at = c .before .digit-at in
+    place-more _ _ _ (omega arith) _ _ _ _ _ _ (loop .inv) (loop-test .taken)
+    (digit-at .ensures .1 .whole) (digit-at .ensures .1 .below) (digit-at .ensures .1 .nine (loop .inv .below)))
+    (λ c. omega (arith, place-last _ _ _ (omega arith) _ _ _ _ (c .before .loop .inv) (c .loop-test .left)))
+    (λ c. omega (arith, place-last _ _ _ (omega arith) _ _ _ _ (c .before .loop .inv) (c .loop-test .left)))
+    (λ c. let loop = c .before .loop in
+    let s = c .before .before .before .before in
+    omega (arith, place-room _ _ _ (omega arith) _ _ _ _ (loop .inv) (s .pre)))
+    (λ c. let loop = c .before .loop in
+    let s = c .before .before .before .before in
+    omega (arith, place-room _ _ _ (omega arith) _ _ _ _ (loop .inv) (s .pre)))
+    (λ c. simp length-set (place-length _ _ _ (omega arith) _ _ _ _ (c .before .loop .inv)))
+    (λ c. let loop = c .before .loop in
+    let loop-test = c .loop-test in
+    (omega (arith, loop .inv .end), place-end _ _ _ (omega arith) _ _ _ _ (loop .inv) (loop-test .left))))
