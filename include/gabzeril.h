@@ -28,7 +28,7 @@ extern "C" {
 #endif
 
 /* The Makefile reads the version from this line. */
-#define GABZERIL_VERSION "0.5.0"
+#define GABZERIL_VERSION "0.5.1"
 
 /* Limits. */
 

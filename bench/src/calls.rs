@@ -72,6 +72,8 @@ pub enum Call {
     },
     WritePool {
         table: Vec<u32>,
+        /// The bytes of the buffer; all there are if this is none.
+        room: Option<usize>,
     },
     WriteRule {
         rule: Vec<u32>,
@@ -154,7 +156,10 @@ impl Call {
             // Each call puts the second table behind the same first one.
             Call::Join { first, second } => (side.join)(words, first.len(), second),
             Call::ReadPool { file } => (side.read_pool)(file, words),
-            Call::WritePool { table } => (side.write_pool)(table, bytes),
+            Call::WritePool { table, room } => {
+                let room = room.unwrap_or(bytes.len());
+                (side.write_pool)(table, &mut bytes[..room])
+            }
             Call::WriteRule { rule } => (side.write_rule)(rule, bytes),
             Call::Verdict { rule, pool } => (side.verdict)(rule, pool),
             Call::Marks { rule, pool } => (side.marks)(rule, pool, bytes),

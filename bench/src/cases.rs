@@ -5,9 +5,9 @@ use gabzeril_tests::largest;
 
 use crate::calls::Call;
 use crate::inputs::{
-    all_in_one_chain, children_in_one_chain, deep, devices, devices_of_nines, devices_of_ten_digits, early,
-    gathered, late, names_in_one_chain, one_device, path, places_in_one_chain, roots, roots_in_one_chain,
-    rule_book, with_no_parent, with_wrong_depth, with_wrong_depths, A, B, C,
+    all_in_one_chain, children_in_one_chain, deep, devices, early, gathered, late, names_in_one_chain,
+    one_device, path, places_in_one_chain, roots, roots_in_one_chain, rule_book, values_of_nines,
+    values_of_ten_digits, with_no_parent, with_wrong_depth, with_wrong_depths, A, B, C,
 };
 use crate::trial;
 
@@ -40,7 +40,19 @@ fn marks(rule: &[u32], pool: Vec<u32>) -> Call {
     Call::Marks { rule: rule.to_vec(), pool }
 }
 
+fn write_pool(table: Vec<u32>) -> Call {
+    Call::WritePool { table, room: None }
+}
+
+/// The same into a buffer that just fits.
+fn write_pool_just_fits(table: Vec<u32>) -> Call {
+    let room = Some(POOL.text_of(&table).len());
+    Call::WritePool { table, room }
+}
+
 pub const THREE_ROWS: &str = "devices of three rows";
+const TEN_DIGITS: &str = "devices of three rows, values of ten digits";
+const NINES: &str = "devices of three rows, values of nines";
 pub const ONE_DEVICE: &str = "one device";
 /// Each row hangs under the one before.
 const PATH: &str = "one path of rows";
@@ -96,22 +108,24 @@ pub fn all() -> Vec<Case> {
     }
     of_the_rule_book(&mut cases);
     trial::add_cases(&mut cases);
-    of_digits(&mut cases);
+    written_numbers(&mut cases);
     cases
 }
 
 /// Writing of numbers with many digits, and with the largest digits.
-fn of_digits(cases: &mut Vec<Case>) {
+fn written_numbers(cases: &mut Vec<Case>) {
     for rows in [64, 1_020] {
-        let mut add = |table: Vec<u32>, values: &str| {
-            cases.push(case(Call::WritePool { table }, format!("{THREE_ROWS}, values of {values}"), rows));
-        };
-        add(devices_of_ten_digits(rows), "ten digits");
-        add(devices_of_nines(rows), "nines");
+        cases.push(case(write_pool(values_of_ten_digits(rows)), TEN_DIGITS, rows));
+        cases.push(case(write_pool(values_of_nines(rows)), NINES, rows));
     }
-    // The check of a long rule takes far more than its writing.
+    // Rule B too, since the check of a long rule takes far more than its writing.
     for (rule, on) in [(B.to_vec(), "rule B"), (largest::longest_rule(), "longest rule, 128 entries")] {
         cases.push(case(Call::WriteRule { rule }, on, 0));
+    }
+    let rows = 1_020;
+    let tables = [devices(rows, 1), values_of_ten_digits(rows), values_of_nines(rows)];
+    for (table, on) in tables.into_iter().zip([THREE_ROWS, TEN_DIGITS, NINES]) {
+        cases.push(case(write_pool_just_fits(table), format!("{on}, a buffer that just fits"), rows));
     }
 }
 
@@ -169,7 +183,7 @@ fn on_devices(cases: &mut Vec<Case>, rows: u32) {
     add(join_halves(&pool), "devices of three rows, two halves");
     add(join_last(&pool), "devices of three rows, the last one added");
     add(Call::ReadPool { file: POOL.text_of(&pool) }, THREE_ROWS);
-    add(Call::WritePool { table: pool.clone() }, THREE_ROWS);
+    add(write_pool(pool.clone()), THREE_ROWS);
     add(Call::CheckFiles { rule_file: RULE.text_of(&A), pool_file: POOL.text_of(&pool) }, A_TRUE);
     add(Call::CheckFiles { rule_file: RULE.text_of(&B), pool_file: POOL.text_of(&pool) }, B_TRUE);
 }

@@ -43,7 +43,7 @@ pub fn under(parent: &Row, at: u32, name: u32, value: u32) -> Row {
 }
 
 /// The rows of `devices(rows, 1)` with values of ten digits, close to the largest.
-pub fn devices_of_ten_digits(rows: u32) -> Vec<u32> {
+pub fn values_of_ten_digits(rows: u32) -> Vec<u32> {
     let mut table = rows_of(&devices(rows, 1));
     for (value, row) in (2_147_480_000..).zip(&mut table) {
         row.value = value;
@@ -53,7 +53,7 @@ pub fn devices_of_ten_digits(rows: u32) -> Vec<u32> {
 
 /// The rows of `devices(rows, 1)` with nines as every value. Siblings have names of their own, as none may be
 /// equal.
-pub fn devices_of_nines(rows: u32) -> Vec<u32> {
+pub fn values_of_nines(rows: u32) -> Vec<u32> {
     let mut table = rows_of(&devices(rows, 1));
     for row in &mut table {
         row.name = if row.is_root() { row.device } else { row.at };
@@ -314,8 +314,8 @@ mod tests {
         for rows in [64, 256, 512, 1_020, 1_021, 1_024] {
             let tables = [
                 devices(rows, 1),
-                devices_of_ten_digits(rows),
-                devices_of_nines(rows),
+                values_of_ten_digits(rows),
+                values_of_nines(rows),
                 one_device(rows),
                 gathered(rows),
                 roots(rows, 1),
@@ -347,8 +347,8 @@ mod tests {
     #[test]
     fn digits_are_as_described() {
         let all = |table: Vec<u32>, test: fn(u32) -> bool| rows_of(&table).iter().all(|row| test(row.value));
-        assert!(all(devices_of_ten_digits(1_024), |value| value >= 1_000_000_000));
-        assert!(all(devices_of_nines(1_024), |value| value == 999_999_999));
+        assert!(all(values_of_ten_digits(1_024), |value| value >= 1_000_000_000));
+        assert!(all(values_of_nines(1_024), |value| value == 999_999_999));
     }
 
     #[test]

@@ -123,12 +123,12 @@ fn reports_of_every_length() {
 /// Where a count or a place gets a digit more, and around it, up to the most rows.
 const ENDS: [usize; 14] = [1, 2, 9, 10, 11, 99, 100, 101, 998, 999, 1_000, 1_001, 1_023, 1_024];
 
-/// Above every value of `roots`.
-const LIMIT_OF_SOME: u32 = 10_000;
+/// What the values of the full part are below, as all of `roots` are.
+const VALUE_LIMIT: u32 = 10_000;
 
 /// Every root named 1 has any value, and some root named 2 has one below the limit.
 const RULE_OF_COUNTS: [u32; 20] =
-    [2, 1, 2, 0, 5, 3, 0, 1, 6, 4, 0, 2, 9, 0, 1, MOST_VALUE, 8, 0, 1, LIMIT_OF_SOME];
+    [2, 1, 2, 0, 5, 3, 0, 1, 6, 4, 0, 2, 9, 0, 1, MOST_VALUE, 8, 0, 1, VALUE_LIMIT];
 
 /// Compares a report that must have this text, in buffers about as long.
 fn report_of_text(case: &mut Case, rule: &[u8], pool: &[u8], text: &str) {
@@ -162,7 +162,7 @@ fn pool_of_counts(rows: usize, branch: usize, full: usize, marks: usize) -> Vec<
         match place {
             _ if place < full => row.name = 2,
             _ if place < full + marks - 1 => row.name = 1,
-            _ if place < branch => (row.name, row.value) = (2, LIMIT_OF_SOME + row.value),
+            _ if place < branch => (row.name, row.value) = (2, VALUE_LIMIT + row.value),
             _ => row.name = 3,
         }
     }
@@ -193,8 +193,10 @@ fn reports_of_places() {
             report_of_text(case, &faulty_line(RULE, line), b"", &refused(19, line));
             report_of_text(case, &rule, &faulty_line(POOL, line), &refused(19, line));
         }
-        // The last line of a file that is no longer than may be.
-        let last = 8_192;
+        // The highest number that a line can have: the program takes no longer file. Between the first line
+        // and the empty one stand as many lines of one digit in each column as there is room for.
+        let lines = (MOST_FILE_BYTES - RULE.first_line.len() - 1) / "0 0 0 0\n".len();
+        let last = 1 + lines + 1;
         report_of_text(case, &faulty_line(RULE, last), b"", &refused(19, last));
     });
 }

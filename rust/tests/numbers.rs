@@ -1,11 +1,11 @@
 //! Rules and tables whose words are chosen for their digits, written and read back.
 //!
-//! A library that finds digits by taking powers of ten off may be wrong in these ways. What shows each:
+//! A library that finds digits by subtracting powers of ten may be wrong in these ways. What shows each:
 //!
 //! - One power is wrong: numbers of as many digits or more. Every column has each width that it takes
 //!   (`saw_each_width`), and every value up to 100,000 is written.
-//! - A power is not taken off where it is all that is left (`<` for `<=`), or not taken as the first one:
-//!   digits followed by zeros, as 10, 200, 2,300,000 and 1,000,000,000.
+//! - A power is not subtracted where it is all that is left (`<` for `<=`), or is not the first subtracted
+//!   where it is the whole number: digits followed by zeros, as 10, 200, 2,300,000 and 1,000,000,000.
 //! - The first power is one too high, which gives a leading zero, or one too low: any number. Where this is
 //!   so at one width alone, the ends of that width, 0 among them.
 //! - A digit stops at eight: a 9, at each place. Every other digit stands at each place too
@@ -250,7 +250,8 @@ fn largest_inputs() {
     tally.saw_each([0, 17], 400);
 }
 
-/// Words of any column are read up to the largest, though no accepted rule or table has it.
+/// Words of every width up to the largest, 4,294,967,295, are read back in any column, though no accepted
+/// rule or table has them all. The files of tests/files.rs hardly have words of six digits to eight.
 #[test]
 fn reading() {
     let tally = run("reading_of_digits", 10_000, 20_000, |case| {
@@ -283,24 +284,23 @@ fn values_one_after_the_other() {
     let mut values = ends_of_digits(MOST_VALUE);
     values.extend(0..=100_000);
     let values: Vec<u32> = values.into_iter().collect();
-    let tally = run("values_one_after_the_other", 1, 290, |case| {
+    let tally = run("values_one_after_the_other", 1, 190, |case| {
         for values in values.chunks(ROWS) {
             let root = |(at, &value)| Row { device: 1, at, up: 0, deep: 0, name: 1, value };
             let table: Vec<Row> = (1..).zip(values).map(root).collect();
             compare_with_formatting(case, &table);
         }
     });
-    tally.saw_each([0], 190);
-    tally.saw_each([17], 95);
+    tally.saw_each([0, 17], 95);
 }
 
 /// Every device, at and name in tables of roots; every at, up and name in paths of rows, each under the one
-/// before.
+/// before. The columns from device to name have every width; values are walked through above.
 #[test]
 fn names_one_after_the_other() {
     let names: Vec<u32> = (1..=MOST_NAME).collect();
     let mut written = Written::default();
-    let tally = run("names_one_after_the_other", 1, 390, |case| {
+    let tally = run("names_one_after_the_other", 1, 260, |case| {
         for names in names.chunks(ROWS) {
             let root = |&name: &u32| Row { device: name, at: name, up: 0, deep: 0, name, value: name };
             let roots = names.iter().map(root).collect();
@@ -310,9 +310,8 @@ fn names_one_after_the_other() {
             }
         }
     });
-    tally.saw_each([0], 260);
-    tally.saw_each([17], 130);
-    written.saw_each_width(&MOST_OF_ROW[..4], 9);
+    tally.saw_each([0, 17], 130);
+    written.saw_each_width(&MOST_OF_ROW[..5], 9);
 }
 
 /// Its ats are these names, and the one before them, which is the first's up.
@@ -325,7 +324,8 @@ fn path(names: &[u32]) -> Vec<Row> {
     (0..).zip(first.max(2) - 1..=last).map(row).collect()
 }
 
-/// Compares the file of an accepted table with the checker's, and with what Rust's own formatting gives.
+/// Compares the file of an accepted table with what Rust's own formatting gives, where it just fits; and with
+/// the checker's, where there is room behind it. One byte short is 17.
 fn compare_with_formatting(case: &mut Case, table: &[Row]) {
     let line = |row: &Row| {
         let Row { device, at, up, deep, name, value } = row;
@@ -333,7 +333,7 @@ fn compare_with_formatting(case: &mut Case, table: &[Row]) {
     };
     let text = POOL.first_line.to_string() + &table.iter().map(line).collect::<String>();
     let words = words_of(table);
-    for length in [text.len() - 1, text.len(), text.len() + 7] {
+    for length in [text.len() - 1, text.len() + 7] {
         let output = case.random.bytes(length);
         calls::write_pool(case, &words, &output);
     }

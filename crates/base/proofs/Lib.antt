@@ -3,3 +3,4 @@ pub mod Search
 pub mod Copies
 pub mod Lists
 pub mod Sums
+pub mod Counts

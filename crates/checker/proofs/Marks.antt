@@ -1,14 +1,12 @@
--- The loop that counts marks, the marked rows, and the counts that the program prints. Assumes nothing.
-use Prim.Native.Nat.{ℕ, suc, _+_, _≤_, _<_}
+-- The marked rows, and the counts that the program prints. Assumes nothing.
+use Prim.Native.Nat.{ℕ, suc, _≤_}
 use mathlib.Core.Path.{_≡_, refl, ap, _∙_}
 use mathlib.Core.Bool.{Bool, true, false}
 use mathlib.Core.List.{List, [], _∷_, map}
-use native.Mathlib.Numerals.{add-one}
 use native.Mathlib.Omega.{arith}
-use lib.ListN.{length, getD, take, drop, length-append, drop-of-length-le}
-use lib.Seq.{drop-cons, take-at}
+use lib.ListN.{length, take, drop, length-append}
+use lib.Seq.{take-at}
 use lib.Dec.{eqb}
-use borrow.Author.Tests.{eq-eqb, ne-eqb}
 use Rattle.base.specs.Lists.{put, select}
 use Rattle.base.proofs.Lists.{length-select}
 use Rattle.tables.specs.Answers.{value}
@@ -25,38 +23,8 @@ use Rattle.logic.specs.Marks.{marked, markBytes, marksAnswer, marksOut}
 use Rattle.logic.proofs.Calls.{marks-is, marks-out, byte-count}
 use Rattle.checker.specs.Report.{partsCount, markedCount, counts}
 
-abbrev isOne : ℕ → Bool
+abbrev pub isOne : ℕ → Bool
 isOne b = eqb b 1
-
--- i bytes are passed, of which n are 1
-pub record Counting (bs : List ℕ) (n i : ℕ) : Type 0 where
-  pub within : i ≤ length bs
-  pub few : n ≤ i
-  pub rest : length (select isOne bs) ≡ n + length (select isOne (drop i bs))
-
-module _ (bs : List ℕ) where
-  pub count-begin : Counting bs 0 0
-  count-begin = record { within = omega arith; few = omega arith; rest = omega arith }
-
-  split : (i : ℕ) → i < length bs → select isOne (drop i bs) ≡ put (isOne (getD bs i 0)) (getD bs i 0) (select isOne (drop (i + 1) bs))
-  split i h = rw (add-one, drop-cons bs i 0 h)
-
-  pub count-hit : (n i : ℕ) → Counting bs n i → i < length bs → getD bs i 0 ≡ 1 → Counting bs (n + 1) (i + 1)
-  count-hit n i s h e =
-      let z : select isOne (drop i bs) ≡ getD bs i 0 ∷ select isOne (drop (i + 1) bs)
-      = split i h ∙ ap (λ (b : Bool). put b (getD bs i 0) (select isOne (drop (i + 1) bs))) (eq-eqb (getD bs i 0) 1 e) in
-      record { within = omega arith; few = omega (arith, s .few); rest = omega (arith, s .rest, ap length z) }
-
-  pub count-miss : (n i : ℕ) → Counting bs n i → i < length bs → (getD bs i 0 ≡ 1 → ⊥) → Counting bs n (i + 1)
-  count-miss n i s h e =
-      let z : select isOne (drop i bs) ≡ select isOne (drop (i + 1) bs)
-      = split i h ∙ ap (λ (b : Bool). put b (getD bs i 0) (select isOne (drop (i + 1) bs))) (ne-eqb (getD bs i 0) 1 e) in
-      record { within = omega arith; few = omega (arith, s .few); rest = omega (arith, s .rest, ap length z) }
-
-  pub count-end : (n i : ℕ) → Counting bs n i → length bs ≤ i → n ≡ length (select isOne bs)
-  count-end n i s h =
-      let z : drop i bs ≡ [] = drop-of-length-le bs h in
-      omega (arith, s .rest, ap (λ (l : List ℕ). length (select isOne l)) z)
 
 -- ---- the marks of an accepted rule on an accepted pool
 ones-is : (p : Row → Bool) (T : List Row) → length (select isOne (map (λ r. one (p r)) T)) ≡ length (select p T)

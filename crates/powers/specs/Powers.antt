@@ -1,27 +1,22 @@
--- 02, wish 3: powers of ten held in a constant table, and a digit found by subtracting one, at most nine times. Assumes nothing.
-use Prim.Native.Nat.{ℕ, suc, _+_, _*_, _/_, _%_, _^_, _≤_, _<_, min}
+-- 02, wish 3: powers of ten held in a constant table, and a digit found by subtracting its power, at most nine times. Assumes nothing.
+use Prim.Native.Nat.{ℕ, _+_, _-_, _*_, _/_, _%_, _^_, _≤_, _<_, min}
 use mathlib.Core.Path.{_≡_}
-use mathlib.Core.List.{List}
-use lib.ListN.{length, getD}
 use Rattle.powers.specs.declared.Digit.{Digit}
 
--- each entry of a table is its power
-abbrev pub PowersOfTen : List ℕ → Type 0
-PowersOfTen table = (i : ℕ) → i < length table → getD table i 0 ≡ 10 ^ i
+-- no word has more digits
+abbrev pub wordDigits : ℕ
+wordDigits = 10
 
--- the last power of ten that a word can reach
-abbrev pub lastPower : ℕ
-lastPower = 9
-
+-- entry i of the table is 10 ^ i; past the table stands its last entry
 abbrev pub powerAt : ℕ → ℕ
-powerAt i = 10 ^ min i lastPower
+powerAt i = 10 ^ min i (wordDigits - 1)
 
--- the digit of v at 10 ^ i, where v has none above it, and what is left past it
+-- the digit of v at a power, where v has none above it, and what is left
 abbrev pub digitAt : ℕ → ℕ → Digit
-digitAt v i = record { count = v / 10 ^ i; rest = v % 10 ^ i }
+digitAt v i = record { times = v / powerAt i; rest = v % powerAt i }
 
--- the digit is the number of subtractions, the rest is below the power, and there are at most nine where v has no digit above it
+-- so many times the power and the rest are v, the rest is below the power, and where v has no digit above it there are at most nine times
 pub record Subtracted (v i : ℕ) (d : Digit) : Type 0 where
-  pub whole : v ≡ d .count * 10 ^ i + d .rest
-  pub below : d .rest < 10 ^ i
-  pub nine : v < 10 ^ suc i → d .count ≤ 9
+  pub whole : v ≡ d .times * powerAt i + d .rest
+  pub below : d .rest < powerAt i
+  pub nine : v < 10 * powerAt i → d .times ≤ 9

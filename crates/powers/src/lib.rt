@@ -1,11 +1,13 @@
-// Powers of ten, and the digits of a number found by subtracting them: small collectors can't afford a division for each.
+// Powers of ten, and a number's digits by subtracting them: small collectors can't afford a division for each.
 ghost use mathlib.Core.Path.{_≡_};
 ghost use Rattle.powers.specs.Powers.{powerAt, digitAt, Subtracted};
 
 // No word has more digits.
 pub const WORD_DIGITS: usize = 10;
 
-// The powers of ten that a word can reach.
+const LAST: usize = WORD_DIGITS - 1;
+
+// The powers of ten that are words.
 const POWERS: [u32; WORD_DIGITS] = [
     1,
     10,
@@ -19,9 +21,9 @@ const POWERS: [u32; WORD_DIGITS] = [
     1000000000,
 ];
 
-// A digit, which is how often its power was subtracted, and what is left.
+// A digit, which is how many times its power was subtracted, and what is left.
 pub struct Digit {
-    pub count: u32,
+    pub times: u32,
     pub rest: u32,
 }
 
@@ -32,7 +34,7 @@ pub fn power(i: usize) -> u32
     if i < WORD_DIGITS {
         return POWERS[i];
     }
-    POWERS[9]
+    POWERS[LAST]
 }
 
 // The digit of v at the power i, where v has none above it: the power is subtracted until less than it is left.
@@ -40,18 +42,15 @@ pub fn digit_at(v: u32, i: usize) -> Digit
     ensures digit { λ r. ⌜ r ≡ digitAt v i ⌝ }
     ensures subtracted { λ r. ⌜ Subtracted v i r ⌝ }
 {
-    if WORD_DIGITS <= i {
-        return Digit { count: 0, rest: v };
-    }
     let p = power(i);
-    let mut count = 0;
+    let mut times = 0;
     let mut rest = v;
     while p <= rest {
         rest -= p;
-        count += 1;
+        times += 1;
     }
     Digit {
-        count: count,
+        times: times,
         rest: rest,
     }
 }

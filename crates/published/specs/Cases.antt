@@ -13,7 +13,7 @@ use Rattle.tables.specs.Words.{rows, rowCount}
 use Rattle.tables.specs.Rules.{one, checkRule, acceptedRule}
 use Rattle.tables.specs.Tables.{checkTable}
 use Rattle.tables.specs.Joining.{joinAnswer, joinPool}
-use Rattle.tables.specs.Files.{countNames, digitByte, writeCounts, writeCountsOut}
+use Rattle.tables.specs.Files.{countNames, writeCounts, writeCountsOut}
 use Rattle.tables.specs.declared.Row.{Row}
 use Rattle.tables.specs.declared.Answer.{Answer}
 use Rattle.tables.specs.declared.Answer.the-variants.{Done, Refused}
@@ -130,15 +130,15 @@ removeStep device at = 3 ∷ row device at 9 9 9 9
 abbrev pub secondServer : List ℕ
 secondServer = addStep 4 1 0 0 1 14 ++ addStep 4 2 1 1 2 2 ++ setStep 1 2 1 ++ removeStep 1 3
 
--- the digits of the least and of the largest number of n + 1 digits; digits with the byte after them
-abbrev pub least : ℕ → List ℕ
-least n = 1 ∷ replicate n 0
+-- the digits of 10 ^ n, n nines; digits as text, with the byte after them
+abbrev pub tenTo : ℕ → List ℕ
+tenTo n = 1 ∷ replicate n 0
 
-abbrev pub largest : ℕ → List ℕ
-largest n = replicate (suc n) 9
+abbrev pub nines : ℕ → List ℕ
+nines n = replicate n 9
 
-abbrev pub shown : List ℕ → ℕ → List ℕ
-shown digits after = map digitByte digits ++ after ∷ []
+abbrev pub textThen : ℕ → List ℕ → List ℕ
+textThen byte digits = map (λ d. 48 + d) digits ++ byte ∷ []
 
 -- ---- what a case gives and expects
 -- a row by (device, at)
@@ -215,6 +215,7 @@ right (writes words bytes) =
     let file = countNames ++ bytes in
     sameAnswer (writeCounts words (length file)) (Done (length file))
     && sameAnswer (writeCounts words (length file - 1)) (Refused 17 0)
+    && sameWords (writeCountsOut words (buffer (length file - 1))) (buffer (length file - 1))
     && sameWords (writeCountsOut words (buffer (length file + 1))) (file ++ buffer 1)
 right (setChecked rules counts answer) = sameAnswer (checkSet rules counts) answer
 right (setJudged rules counts pool bytes) =
@@ -278,14 +279,17 @@ cases =
     ∷ ruleChecked (nested 0 7) (Refused 6 6)
     -- those side by side do not count
     ∷ ruleChecked (beside 0 6) (Done 20)
-    -- numbers of every width, the first and the last of each, and the largest: five to a line
+    -- numbers of every width, on both sides of each power of ten, and the largest: five to a line
     ∷ writes
-    (0 ∷ 9 ∷ 10 ∷ 99 ∷ 100 ∷ 999 ∷ 1000 ∷ 9999 ∷ 10000 ∷ 99999 ∷ 100000 ∷ 999999 ∷ 1000000 ∷ 9999999 ∷ 10000000
+    (0 ∷ 9 ∷ 10 ∷ 99 ∷ 100
+    ∷ 999 ∷ 1000 ∷ 9999 ∷ 10000 ∷ 99999
+    ∷ 100000 ∷ 999999 ∷ 1000000 ∷ 9999999 ∷ 10000000
     ∷ 99999999 ∷ 100000000 ∷ 999999999 ∷ 1000000000 ∷ 4294967295 ∷ [])
-    (shown (0 ∷ []) 32 ++ shown (largest 0) 32 ++ shown (least 1) 32 ++ shown (largest 1) 32 ++ shown (least 2) 10
-    ++ shown (largest 2) 32 ++ shown (least 3) 32 ++ shown (largest 3) 32 ++ shown (least 4) 32 ++ shown (largest 4) 10
-    ++ shown (least 5) 32 ++ shown (largest 5) 32 ++ shown (least 6) 32 ++ shown (largest 6) 32 ++ shown (least 7) 10
-    ++ shown (largest 7) 32 ++ shown (least 8) 32 ++ shown (largest 8) 32 ++ shown (least 9) 32 ++ shown (4 ∷ 2 ∷ 9 ∷ 4 ∷ 9 ∷ 6 ∷ 7 ∷ 2 ∷ 9 ∷ 5 ∷ []) 10)
+    (textThen 32 (0 ∷ []) ++ textThen 32 (nines 1) ++ textThen 32 (tenTo 1) ++ textThen 32 (nines 2) ++ textThen 10 (tenTo 2)
+    ++ textThen 32 (nines 3) ++ textThen 32 (tenTo 3) ++ textThen 32 (nines 4) ++ textThen 32 (tenTo 4) ++ textThen 10 (nines 5)
+    ++ textThen 32 (tenTo 5) ++ textThen 32 (nines 6) ++ textThen 32 (tenTo 6) ++ textThen 32 (nines 7) ++ textThen 10 (tenTo 7)
+    ++ textThen 32 (nines 8) ++ textThen 32 (tenTo 8) ++ textThen 32 (nines 9) ++ textThen 32 (tenTo 9)
+    ++ textThen 10 (4 ∷ 2 ∷ 9 ∷ 4 ∷ 9 ∷ 6 ∷ 7 ∷ 2 ∷ 9 ∷ 5 ∷ []))
     -- (l)
     ∷ joins D2 D1 (Refused 16 0)
     ∷ joins D1 D2 (Done 30)

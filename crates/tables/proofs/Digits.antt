@@ -23,7 +23,7 @@ pub text-one : (d : ℕ) → d < 10 → numberText d ≡ digitByte d ∷ []
 unfolding digitsUpTo
 text-one d h = rw (lt-ltb d 10 h)
 
-pub text-div : (v : ℕ) → 10 ≤ v → v ≤ numberLimit → numberText v ≡ numberText (v / 10) ++ (digitByte (v % 10) ∷ [])
+text-div : (v : ℕ) → 10 ≤ v → v ≤ numberLimit → numberText v ≡ numberText (v / 10) ++ (digitByte (v % 10) ∷ [])
 unfolding digitsUpTo
 text-div v h m = rw (le-ltb v 10 h) (ap (λ (l : List ℕ). l ++ (digitByte (v % 10) ∷ [])) (sym (fuel 8 (v / 10) (omega arith))))
 
@@ -33,11 +33,8 @@ text-grow v d p h m =
     let r : (10 * v + d) % 10 ≡ d = omega arith in
     text-div (withDigit v d) (omega arith) m ∙ rw (q, r)
 
-pub length-div : (v : ℕ) → 10 ≤ v → v ≤ numberLimit → length (numberText v) ≡ length (numberText (v / 10)) + 1
+length-div : (v : ℕ) → 10 ≤ v → v ≤ numberLimit → length (numberText v) ≡ length (numberText (v / 10)) + 1
 length-div v h m = ap length (text-div v h m) ∙ length-append (numberText (v / 10)) (digitByte (v % 10) ∷ [])
-
-pub length-one : (v : ℕ) → v < 10 → length (numberText v) ≡ 1
-length-one v h = ap length (text-one v h)
 
 digits-le : (n w : ℕ) → length (digitsUpTo n w) ≤ n
 unfolding digitsUpTo
@@ -75,27 +72,27 @@ digits-pos n w = go (ltb w 10)
 pub text-pos : (w : ℕ) → 1 ≤ length (numberText w)
 text-pos w = digits-pos 9 w
 
--- ---- the powers of ten that a number reaches are its digits but one
-pub reach-over : (n w : ℕ) → w ≤ numberLimit → 10 ^ n ≤ w → n < length (numberText w)
-reach-over zero w m h = text-pos w
-reach-over (suc n) w m h =
+-- ---- a number has more than n digits from 10 ^ n on
+pub wide-from : (n w : ℕ) → w ≤ numberLimit → 10 ^ n ≤ w → n < length (numberText w)
+wide-from zero w m h = text-pos w
+wide-from (suc n) w m h =
     let p : 10 ^ suc n ≡ 10 * 10 ^ n = pow-succ' 10 n in
     let q : 1 ≤ 10 ^ n = one-le-pow n 10 (omega arith) in
-    omega (arith, reach-over n (w / 10) (omega arith) (omega arith), length-div w (omega arith) m)
+    omega (arith, wide-from n (w / 10) (omega arith) (omega arith), length-div w (omega arith) m)
 
-pub reach-under : (n w : ℕ) → 0 < n → w < 10 ^ n → length (numberText w) ≤ n
-reach-under zero w z h = absurd (omega arith)
-reach-under (suc n) w z h = digits-few 10 n w h
+pub narrow-below : (n w : ℕ) → 0 < n → w < 10 ^ n → length (numberText w) ≤ n
+narrow-below zero w z h = absurd (omega arith)
+narrow-below (suc n) w z h = digits-few 10 n w h
 
-pub reach-at : (n w : ℕ) → w ≤ numberLimit → n < length (numberText w) → 0 < n → 10 ^ n ≤ w
-reach-at n w m l z = either (ltb w (10 ^ n))
-    (λ e. absurd (omega (arith, reach-under n w z (ltb-true w (10 ^ n) e))))
+pub from-wide : (n w : ℕ) → 0 < n → n < length (numberText w) → 10 ^ n ≤ w
+from-wide n w z l = either (ltb w (10 ^ n))
+    (λ e. absurd (omega (arith, narrow-below n w z (ltb-true w (10 ^ n) e))))
     (λ e. ltb-false w (10 ^ n) e)
 
-pub reach-top : (w : ℕ) → w ≤ numberLimit → w < 10 ^ length (numberText w)
-reach-top w m = either (ltb w (10 ^ length (numberText w)))
-    (λ e. ltb-true w (10 ^ length (numberText w)) e)
-    (λ e. absurd (omega (arith, reach-over (length (numberText w)) w m (ltb-false w (10 ^ length (numberText w)) e))))
+pub below-narrow : (n w : ℕ) → w ≤ numberLimit → length (numberText w) ≤ n → w < 10 ^ n
+below-narrow n w m l = either (ltb w (10 ^ n))
+    (λ e. ltb-true w (10 ^ n) e)
+    (λ e. absurd (omega (arith, wide-from n w m (ltb-false w (10 ^ n) e))))
 
 -- ---- digits from the front: the text of the number that they make, nothing before the first
 abbrev pub soFar : ℕ → List ℕ

@@ -1,13 +1,13 @@
 -- The answers of writing a file, each from the tests that lead to it. Assumes nothing.
 use Prim.Native.Nat.{ℕ, _+_, _≤_, _<_}
 use mathlib.Core.Path.{_≡_, refl, sym, ap, _∙_}
-use mathlib.Core.Bool.{true, false}
+use mathlib.Core.Bool.{Bool, true, false, not}
 use mathlib.Core.List.{List, [], _∷_, _++_}
 use native.Mathlib.Omega.{arith}
 use lib.ListN.{length, drop, length-append}
 use lib.Seq.{sets, sets-eq}
 use lib.Dec.{leb}
-use borrow.Author.Tests.{le-leb, lt-leb}
+use borrow.Author.Tests.{le-leb, lt-leb, leb-true, leb-false, not-true, not-false}
 use Rattle.tables.specs.declared.Answer.{Answer}
 use Rattle.tables.specs.declared.Answer.the-variants.{Done, Refused}
 use Rattle.tables.specs.Files.{numberText, byteAfter, nextColumn, textFrom, writeText, writeAnswer, writeOut}
@@ -18,6 +18,13 @@ text-size : (k c : ℕ) (ws : List ℕ) → length (textFrom k c ws) ≡ textLen
 unfolding textFrom textLength
 text-size k c [] = refl
 text-size k c (w ∷ ws) = length-append (numberText w) (byteAfter k c ∷ textFrom k (nextColumn k c) ws) ∙ omega (arith, text-size k (nextColumn k c) ws)
+
+-- what the test of the room says
+pub too-long : (ws : List ℕ) (room : ℕ) (r : Bool) → r ≡ leb (textLength ws) room → not r ≡ true → room < textLength ws
+too-long ws room r e t = leb-false (textLength ws) room (sym e ∙ not-true r t)
+
+pub not-too-long : (ws : List ℕ) (room : ℕ) (r : Bool) → r ≡ leb (textLength ws) room → not r ≡ false → textLength ws ≤ room
+not-too-long ws room r e t = leb-true (textLength ws) room (sym e ∙ not-false r t)
 
 abbrev pub Wrote : List ℕ → ℕ → Answer → List ℕ → List ℕ → Answer → List ℕ → Type 0
 Wrote names k checked ws out r out′ = (r ≡ writeAnswer names k checked ws (length out)) × (out′ ≡ writeOut names k checked ws out)

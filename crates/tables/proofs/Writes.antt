@@ -24,15 +24,16 @@ pub record Putting (k : ℕ) (ws out₀ : List ℕ) (at : ℕ) (out : List ℕ) 
   pub within : i ≤ length ws
   pub column : c < k
   pub len : length out ≡ length out₀
-  pub room : p + textLength (drop i ws) ≤ length out₀
+  pub place : p + textLength (drop i ws) ≡ at + textLength ws
   pub rest : sets out₀ at (textFrom k 0 ws) ≡ sets out p (textFrom k c (drop i ws))
 
 module _ (k : ℕ) (ws out₀ : List ℕ) (at : ℕ) where
-  pub put-begin : 0 < k → at + textLength ws ≤ length out₀ → Putting k ws out₀ at out₀ at 0 0
-  put-begin h l = record { within = omega arith; column = h; len = refl; room = l; rest = refl }
+  pub put-begin : 0 < k → Putting k ws out₀ at out₀ at 0 0
+  put-begin h = record { within = omega arith; column = h; len = refl; place = refl; rest = refl }
 
-  pub put-room : (out : List ℕ) (p c i : ℕ) → Putting k ws out₀ at out p c i → i < length ws → p + length (numberText (getD ws i 0)) + 1 ≤ length out
-  put-room out p c i t h = omega (arith, t .room, next-length ws i h, t .len)
+  pub put-room : (out : List ℕ) (p c i : ℕ) → Putting k ws out₀ at out p c i → i < length ws → at + textLength ws ≤ length out₀
+      → p + length (numberText (getD ws i 0)) + 1 ≤ length out
+  put-room out p c i t h l = omega (arith, t .place, next-length ws i h, t .len)
 
   pub put-more : (out out′ : List ℕ) (p c i q b d : ℕ) → Putting k ws out₀ at out p c i → i < length ws
       → q ≡ p + length (numberText (getD ws i 0)) → out′ ≡ sets out p (numberText (getD ws i 0)) → b ≡ byteAfter k c → d ≡ nextColumn k c → d < k
@@ -42,12 +43,15 @@ module _ (k : ℕ) (ws out₀ : List ℕ) (at : ℕ) where
     within = omega arith;
     column = dl;
     len = length-set out′ q b ∙ ap length eo ∙ length-sets out p (numberText (getD ws i 0)) ∙ t .len;
-    room = omega (arith, t .room, next-length ws i h);
+    place = omega (arith, t .place, next-length ws i h);
     rest = t .rest ∙ ap (λ (l : List ℕ). sets out p (textFrom k c l)) (drop-cons ws i 0 h)
         ∙ sets-append out p (numberText (getD ws i 0)) (byteAfter k c ∷ textFrom k (nextColumn k c) (drop (suc i) ws))
         ∙ rw (eb, ed, eo, ← eq, add-one i, add-one q);
   }
 
-  pub put-end : (out : List ℕ) (p c i : ℕ) → Putting k ws out₀ at out p c i → length ws ≤ i → out ≡ sets out₀ at (textFrom k 0 ws)
-  unfolding textFrom
-  put-end out p c i t h = sym (t .rest ∙ ap (λ (l : List ℕ). sets out p (textFrom k c l)) (drop-of-length-le ws h))
+  pub put-end : (out : List ℕ) (p c i : ℕ) → Putting k ws out₀ at out p c i → length ws ≤ i
+      → (p ≡ at + textLength ws) × (out ≡ sets out₀ at (textFrom k 0 ws))
+  unfolding textFrom textLength
+  put-end out p c i t h =
+      let none : drop i ws ≡ [] = drop-of-length-le ws h in
+      (sym (ap (λ (l : List ℕ). p + textLength l) none ∙ add-zero p) ∙ t .place, sym (t .rest ∙ ap (λ (l : List ℕ). sets out p (textFrom k c l)) none))

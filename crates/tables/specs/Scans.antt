@@ -22,9 +22,10 @@ unfoldable pub textLength : List ℕ → ℕ
 textLength [] = 0
 textLength (w ∷ ws) = length (numberText w) + 1 + textLength ws
 
--- how many of the words have more than n digits
+-- the number w has more than n digits
 abbrev pub isWider : ℕ → ℕ → Bool
 isWider n w = ltb n (length (numberText w))
 
+-- how many of the words do
 abbrev pub widerCount : ℕ → List ℕ → ℕ
 widerCount n ws = length (select (isWider n) ws)

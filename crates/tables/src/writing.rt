@@ -6,9 +6,11 @@ use powers::WORD_DIGITS;
 use powers::digit_at;
 use powers::power;
 ghost use mathlib.Core.Path.{_≡_};
-ghost use Prim.Native.Nat.{_+_, _≤_, _<_, _^_, min};
+ghost use Prim.Native.Nat.{_+_, _≤_, _<_, _^_};
 ghost use lib.ListN.{length};
 ghost use lib.Seq.{sets};
+ghost use lib.Dec.{leb};
+ghost use Rattle.powers.specs.Powers.{wordDigits};
 ghost use Rattle.tables.specs.Files.{numberText, textFrom, writeAnswer, writeOut};
 ghost use Rattle.tables.specs.Scans.{widerCount, textLength};
 
@@ -26,7 +28,7 @@ fn width(w: u32) -> usize
     n
 }
 
-// Puts the digits of w at `at`, the first one first, and answers the place past them. What the powers leave is the last one.
+// Puts the digits of w at `at`, from the first on, and answers the place past them. The last digit is what is left.
 fn put_number(out: &mut [u8], at: usize, w: u32) -> usize
     requires { ⌜ at + length (numberText w) ≤ length (now out) ⌝ }
     ensures place { λ r. ⌜ r ≡ at + length (numberText w) ⌝ }
@@ -37,7 +39,7 @@ fn put_number(out: &mut [u8], at: usize, w: u32) -> usize
     let mut p = at;
     while 0 < i {
         let digit = digit_at(v, i);
-        out[p] = b'0' + digit.count as u8;
+        out[p] = b'0' + digit.times as u8;
         v = digit.rest;
         p += 1;
         i -= 1;
@@ -60,49 +62,47 @@ fn put_bytes(out: &mut [u8], at: usize, t: &[u8])
 
 // How many of the words have more than n digits.
 fn count_wider(words: &[u32], n: usize) -> usize
-    requires { ⌜ (0 < n) × (n < 10) ⌝ }
-    ensures { λ r. ⌜ (r ≡ widerCount n (now (words .entry))) × (r ≤ length (now (words .entry))) ⌝ }
+    requires { ⌜ (0 < n) × (n < wordDigits) ⌝ }
+    ensures { λ r. ⌜ r ≡ widerCount n (now (words .entry)) ⌝ }
 {
-    let least = power(n);
+    let from = power(n);
     let mut count = 0;
     let mut i = 0;
     while i < words.len() {
-        count += (least <= words[i]) as usize;
+        count += (from <= words[i]) as usize;
         i += 1;
     }
     count
 }
 
-// The bytes that the words take, or room + 1 where that is more: the whole sum may not fit a usize. Counted by powers, not by numbers,
-// whose widths are found once, where they are written.
-fn text_length(words: &[u32], room: usize) -> usize
+// Whether the text of the words fits. Digits are counted power by power, so that a number's width is found once, where it is
+// written, and only until there is room for all that may be left: nine for each wider number. Sixteen, as nine times might wrap.
+fn text_fits(words: &[u32], room: usize) -> bool
     requires { ⌜ room < 2 ^ 63 ⌝ }
-    ensures { λ r. ⌜ r ≡ min (textLength (now (words .entry))) (room + 1) ⌝ }
+    ensures { λ r. ⌜ r ≡ leb (textLength (now (words .entry))) room ⌝ }
 {
     // A digit and the byte after it.
     let mut bytes = 2 * words.len();
     let mut n = 1;
     while n < WORD_DIGITS {
         if room < bytes {
-            return room + 1;
+            return false;
         }
-        let more = count_wider(words, n);
-        if more == 0 {
-            return bytes;
+        let wider = count_wider(words, n);
+        if wider <= (room - bytes) >> 4 {
+            return true;
         }
-        bytes += more;
+        bytes += wider;
         n += 1;
     }
-    if room < bytes {
-        return room + 1;
-    }
-    bytes
+    bytes <= room
 }
 
-// Puts the words at `at`, each with the byte after it.
-fn put_words(k: usize, words: &[u32], out: &mut [u8], at: usize)
+// Puts the words at `at`, each with the byte after it, and answers the place past them.
+fn put_words(k: usize, words: &[u32], out: &mut [u8], at: usize) -> usize
     requires { ⌜ (0 < k) × (at + textLength (now words) ≤ length (now out)) ⌝ }
-    ensures { λ _. ⌜ now (out .exit) ≡ sets (now (out .entry)) at (textFrom k 0 (now (words .entry))) ⌝ }
+    ensures place { λ r. ⌜ r ≡ at + textLength (now (words .entry)) ⌝ }
+    ensures bytes { λ r. ⌜ now (out .exit) ≡ sets (now (out .entry)) at (textFrom k 0 (now (words .entry))) ⌝ }
 {
     let mut p = at;
     let mut c = 0;
@@ -114,6 +114,7 @@ fn put_words(k: usize, words: &[u32], out: &mut [u8], at: usize)
         c = next_column(k, c);
         i += 1;
     }
+    p
 }
 
 // Writes the words as a file with that line of names and k columns, if the table's own checks accepted them.
@@ -141,15 +142,12 @@ pub(crate) fn write_file(
             place: 0,
         };
     }
-    let room = out.len() - h;
-    let size = text_length(words, room);
-    if room < size {
+    if !text_fits(words, out.len() - h) {
         return Answer::Refused {
             number: 17,
             place: 0,
         };
     }
     put_bytes(out, 0, names);
-    put_words(k, words, out, h);
-    Answer::Done(h + size)
+    Answer::Done(put_words(k, words, out, h))
 }

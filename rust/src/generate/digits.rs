@@ -33,7 +33,8 @@ pub fn number_up_to(random: &mut Random, most: u32) -> u32 {
     }
 }
 
-/// Some have a digit less: the one below the least, and those that begin with 0.
+/// A number of so many digits, or the one below the least of them, or one of fewer digits where the first are
+/// zeros.
 fn number_of_width(random: &mut Random, width: usize) -> u64 {
     const ALL: [u64; 10] = [0, 1, 2, 3, 4, 5, 6, 7, 8, 9];
     let least = 10_u64.pow(width as u32 - 1);

@@ -26,8 +26,8 @@ fn renumbered_rules_and_pools_are_accepted() {
         let vocabulary = Vocabulary::new(random);
         let (rule, pool) = (rule(random, &vocabulary), pool(random, &vocabulary));
         let (other_rule, other_pool) = (renumbered_rule(random, &rule), renumbered_table(random, &pool));
-        assert_eq!(check_rule(&other_rule), check_rule(&rule), "seed {seed}: {other_rule:?}");
-        assert_eq!(check_table(&other_pool), check_table(&pool), "seed {seed}: {other_pool:?}");
+        assert_eq!(check_rule(&other_rule).number(), 0, "seed {seed}: {other_rule:?}");
+        assert_eq!(check_table(&other_pool).number(), 0, "seed {seed}: {other_pool:?}");
     }
 }
 

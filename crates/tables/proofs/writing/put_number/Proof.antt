@@ -2,7 +2,7 @@
 use native.Mathlib.Omega.{arith}
 use lib.ListN.{length-set}
 use Rattle.tables.proofs.Digits.{text-pos}
-use Rattle.tables.proofs.Numbers.{Placing, place-begin, place-length, place-room, place-more, place-last, place-end}
+use Rattle.tables.proofs.Numbers.{Placing, place-begin, place-length, place-room, place-nine, place-more, place-last, place-end}
 use borrow.Author.Needs.{needs}
 use Rattle.tables.proofs.writing.put_number.Statement.{statement}
 use Rattle.tables.proofs.writing.put_number.Tie as tie
@@ -17,8 +17,12 @@ put-number-spec = tie.close (tie.spec
     let s = c .before .before in
     place-begin _ _ _ (omega arith) _ (omega (arith, width .ensures .0, text-pos (s .args .w))))
     (λ c κs. search needs)
-    (λ c. omega (arith, c .before .digit-at .ensures .1 .nine (c .before .before .before .loop .inv .below)))
-    (λ c. omega (arith, c .before .digit-at .ensures .1 .nine (c .before .before .before .loop .inv .below)))
+    (λ c. let digit-at = c .before .digit-at in
+    let loop = c .before .before .before .loop in
+    omega (arith, digit-at .ensures .1 .nine (place-nine _ _ _ (omega arith) _ _ _ _ (loop .inv))))
+    (λ c. let digit-at = c .before .digit-at in
+    let loop = c .before .before .before .loop in
+    omega (arith, digit-at .ensures .1 .nine (place-nine _ _ _ (omega arith) _ _ _ _ (loop .inv))))
     (λ c. let loop = c .before .before .before .loop in
     let s = c .before .before .before .before .before .before in
     omega (arith, place-room _ _ _ (omega arith) _ _ _ _ (loop .inv) (s .pre)))
@@ -31,7 +35,7 @@ put-number-spec = tie.close (tie.spec
     let loop-test = c .before .before .loop-test in
     let digit-at = c .before .digit-at in
     place-more _ _ _ (omega arith) _ _ _ _ _ _ (loop .inv) (loop-test .taken)
-    (digit-at .ensures .1 .whole) (digit-at .ensures .1 .below) (digit-at .ensures .1 .nine (loop .inv .below)))
+    (digit-at .ensures .1 .whole) (digit-at .ensures .1 .below) (digit-at .ensures .1 .nine (place-nine _ _ _ (omega arith) _ _ _ _ (loop .inv))))
     (λ c. omega (arith, place-last _ _ _ (omega arith) _ _ _ _ (c .before .loop .inv) (c .loop-test .left)))
     (λ c. omega (arith, place-last _ _ _ (omega arith) _ _ _ _ (c .before .loop .inv) (c .loop-test .left)))
     (λ c. let loop = c .before .loop in
