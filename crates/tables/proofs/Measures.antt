@@ -78,16 +78,16 @@ pub record Measuring (ws : List ℕ) (bytes n : ℕ) : Type 0 where
   pub high : n ≤ wordDigits
   pub is : bytes ≡ lengthUpTo n ws
 
-module _ (ws : List ℕ) (room : ℕ) where
+module _ (ws : List ℕ) where
   pub measure-begin : (bytes : ℕ) → bytes ≡ 2 * length ws → Measuring ws bytes 1
   measure-begin bytes e = record { low = omega arith; high = omega arith; is = e ∙ sym (up-one ws) }
 
-  pub measure-over : (bytes n : ℕ) → Measuring ws bytes n → room < bytes → false ≡ leb (textLength ws) room
-  measure-over bytes n t h = sym (lt-leb (textLength ws) room (omega (arith, t .is, up-le n ws)))
+  pub measure-over : (room bytes n : ℕ) → Measuring ws bytes n → room < bytes → false ≡ leb (textLength ws) room
+  measure-over room bytes n t h = sym (lt-leb (textLength ws) room (omega (arith, t .is, up-le n ws)))
 
-  pub measure-plenty : (bytes n wider : ℕ) → Measuring ws bytes n → bytes ≤ room → wider ≡ widerCount n ws → 9 * wider ≤ room - bytes
+  pub measure-plenty : (room bytes n wider : ℕ) → Measuring ws bytes n → bytes ≤ room → wider ≡ widerCount n ws → 9 * wider ≤ room - bytes
       → true ≡ leb (textLength ws) room
-  measure-plenty bytes n wider t h e l = sym (le-leb (textLength ws) room (omega (arith, t .is, up-most n ws (t .low))))
+  measure-plenty room bytes n wider t h e l = sym (le-leb (textLength ws) room (omega (arith, t .is, up-most n ws (t .low))))
 
   pub measure-more : (bytes n wider : ℕ) → Measuring ws bytes n → n < wordDigits → wider ≡ widerCount n ws → Measuring ws (bytes + wider) (n + 1)
   measure-more bytes n wider t h e = record { low = omega arith; high = omega arith; is = omega (arith, t .is, up-more n ws) }

@@ -14,7 +14,7 @@ text-fits-spec = tie.close (tie.spec
     (λ words room bytes₀ n₀ bytes n. Measuring words bytes n)
     (λ words room bytes₀ n₀ bytes n. 10 - n)
     (λ c. omega arith)
-    (λ c. measure-begin _ (c .before .args .room) _ (omega arith))
+    (λ c. measure-begin _ _ (omega arith))
     (λ c. measure-over _ _ _ _ (c .before .before .loop .inv) (omega (arith, c .if1 .taken)))
     (λ c κs. (omega (arith, c .before .before .loop .inv .low), c .before .loop-test .taken))
     (λ c. let loop = c .before .before .before .before .loop in
@@ -30,12 +30,11 @@ text-fits-spec = tie.close (tie.spec
     omega (arith, count-wider .ensures, length-select (isWider (loop .n)) (s .args .words .now), if1 .left))
     (λ c. omega arith)
     (λ c. omega arith)
-    (λ c. let s = c .before .before .before .before .before .before in
-    let loop = c .before .before .before .before .loop in
+    (λ c. let loop = c .before .before .before .before .loop in
     let loop-test = c .before .before .before .loop-test in
     let count-wider = c .before .count-wider in
-    measure-more _ (s .args .room) _ _ _ (loop .inv) (loop-test .taken) (count-wider .ensures))
+    measure-more _ _ _ _ (loop .inv) (loop-test .taken) (count-wider .ensures))
     (λ c. let s = c .before .before .before in
     let loop = c .before .loop in
     let loop-test = c .loop-test in
-    ap (λ (n : ℕ). leb n (s .args .room)) (measure-end _ (s .args .room) _ _ (loop .inv) (omega (arith, loop-test .left)))))
+    ap (λ (n : ℕ). leb n (s .args .room)) (measure-end _ _ _ (loop .inv) (omega (arith, loop-test .left)))))
