@@ -21,7 +21,8 @@
 
 use gabzeril_tests::answer::Answer;
 use gabzeril_tests::checker::{
-    check_rule, check_table, words_of, Row, MOST_ENTRIES, MOST_NAME, MOST_ROWS, MOST_VALUE, POOL, RULE,
+    check_rule, check_table, words_of, Format, Row, MOST_ENTRIES, MOST_NAME, MOST_ROWS, MOST_VALUE, POOL,
+    RULE,
 };
 use gabzeril_tests::compare::{calls, run, Case};
 use gabzeril_tests::generate::*;
@@ -73,25 +74,50 @@ impl Written {
     }
 }
 
+/// How rules, or tables, are written, read and damaged.
+struct Kind {
+    format: Format,
+    write: fn(&mut Case, &[u32], &[u8]),
+    read: fn(&mut Case, &[u8], &[u32]),
+    damage: fn(&mut Random, &[u32]) -> Vec<u32>,
+}
+
+const RULES: Kind =
+    Kind { format: RULE, write: calls::write_rule, read: calls::read_rule, damage: damaged_rule };
+const TABLES: Kind =
+    Kind { format: POOL, write: calls::write_pool, read: calls::read_pool, damage: damaged_table };
+
+/// Accepted words are written into several buffers and read back; then two damaged ones are written.
+fn write_and_read(case: &mut Case, kind: &Kind, words: &[u32]) {
+    let text = kind.format.text_of(words);
+    for length in lengths(&mut case.random, text.len()) {
+        let output = case.random.bytes(length);
+        (kind.write)(case, words, &output);
+    }
+    let output = case.random.words(words.len());
+    (kind.read)(case, &text, &output);
+    for damage in [kind.damage, with_another_number] {
+        let damaged = damage(&mut case.random, words);
+        let length = one_length_around(&mut case.random, text.len());
+        let output = case.random.bytes(length);
+        (kind.write)(case, &damaged, &output);
+    }
+}
+
+fn write_at_every_length(case: &mut Case, kind: &Kind, words: &[u32]) {
+    for length in 0..kind.format.text_of(words).len() + 4 {
+        let output = case.random.bytes(length);
+        (kind.write)(case, words, &output);
+    }
+}
+
 #[test]
 fn writing_tables() {
     let mut written = Written::default();
     let tally = run("tables_of_digits", 5_000, 50_000, |case| {
         let table = table(&mut case.random);
         written.count(&table, POOL.columns);
-        let text = POOL.text_of(&table);
-        for length in lengths(&mut case.random, text.len()) {
-            let output = case.random.bytes(length);
-            calls::write_pool(case, &table, &output);
-        }
-        let output = case.random.words(table.len());
-        calls::read_pool(case, &text, &output);
-        for damage in [damaged_table, with_another_number] {
-            let damaged = damage(&mut case.random, &table);
-            let length = one_length_around(&mut case.random, text.len());
-            let output = case.random.bytes(length);
-            calls::write_pool(case, &damaged, &output);
-        }
+        write_and_read(case, &TABLES, &table);
     });
     tally.saw_each([0], 20_000);
     tally.saw_each([17], 10_000);
@@ -135,19 +161,7 @@ fn writing_rules() {
         let rule = rule(&mut case.random, &vocabulary);
         let rule = renumbered_rule(&mut case.random, &rule);
         written.count(&rule, RULE.columns);
-        let text = RULE.text_of(&rule);
-        for length in lengths(&mut case.random, text.len()) {
-            let output = case.random.bytes(length);
-            calls::write_rule(case, &rule, &output);
-        }
-        let output = case.random.words(rule.len());
-        calls::read_rule(case, &text, &output);
-        for damage in [damaged_rule, with_another_number] {
-            let damaged = damage(&mut case.random, &rule);
-            let length = one_length_around(&mut case.random, text.len());
-            let output = case.random.bytes(length);
-            calls::write_rule(case, &damaged, &output);
-        }
+        write_and_read(case, &RULES, &rule);
     });
     tally.saw_each([0], 20_000);
     tally.saw_each([17], 10_000);
@@ -161,16 +175,10 @@ fn writing_rules() {
 fn each_number_alone() {
     let tally = run("each_number_alone", 1, 40_000, |case| {
         for table in tables_of_one_number() {
-            for length in 0..POOL.text_of(&table).len() + 4 {
-                let output = case.random.bytes(length);
-                calls::write_pool(case, &table, &output);
-            }
+            write_at_every_length(case, &TABLES, &table);
         }
         for rule in rules_of_one_number() {
-            for length in 0..RULE.text_of(&rule).len() + 4 {
-                let output = case.random.bytes(length);
-                calls::write_rule(case, &rule, &output);
-            }
+            write_at_every_length(case, &RULES, &rule);
         }
     });
     tally.saw_each([0], 3_000);

@@ -15,7 +15,7 @@ powerAt i = 10 ^ min i (wordDigits - 1)
 abbrev pub digitAt : ℕ → ℕ → Digit
 digitAt v i = record { times = v / powerAt i; rest = v % powerAt i }
 
--- so many times the power and the rest are v, the rest is below the power, and where v has no digit above it there are at most nine times
+-- v is the power so many times and the rest, which is below the power; nine times at most where v has no digit above it
 pub record Subtracted (v i : ℕ) (d : Digit) : Type 0 where
   pub whole : v ≡ d .times * powerAt i + d .rest
   pub below : d .rest < powerAt i

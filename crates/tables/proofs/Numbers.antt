@@ -122,4 +122,5 @@ module _ (out₀ : List ℕ) (at w : ℕ) (fits : w ≤ numberLimit) where
       let ten : 10 ^ suc i ≡ 10 = ap (λ (n : ℕ). 10 ^ suc n) none in
       let whole : w ≡ withDigit (t .before) v = rw ten at (t .whole) ∙ omega arith in
       put-behind out i v p (digitByte v) t
-      ∙ sym (ap (λ (n : ℕ). sets out₀ at (numberText n)) whole ∙ ap (sets out₀ at) (text-more (t .before) v (place-last out i v p t h) (omega arith)))
+      ∙ sym (ap (λ (n : ℕ). sets out₀ at (numberText n)) whole
+      ∙ ap (sets out₀ at) (text-more (t .before) v (place-last out i v p t h) (omega arith)))

@@ -53,5 +53,7 @@ module _ (k : ℕ) (ws out₀ : List ℕ) (at : ℕ) where
       → (p ≡ at + textLength ws) × (out ≡ sets out₀ at (textFrom k 0 ws))
   unfolding textFrom textLength
   put-end out p c i t h =
-      let none : drop i ws ≡ [] = drop-of-length-le ws h in
-      (sym (ap (λ (l : List ℕ). p + textLength l) none ∙ add-zero p) ∙ t .place, sym (t .rest ∙ ap (λ (l : List ℕ). sets out p (textFrom k c l)) none))
+      let none : drop i ws ≡ [] = drop-of-length-le ws h in (
+        sym (ap (λ (l : List ℕ). p + textLength l) none ∙ add-zero p) ∙ t .place,
+        sym (t .rest ∙ ap (λ (l : List ℕ). sets out p (textFrom k c l)) none),
+      )

@@ -33,5 +33,6 @@ count-wider-spec = tie.close (tie.spec
     let s = c .before .before .before .before .before in
     let shared-slice-known = c .before .before .before .before .shared-slice-known in
     let power = c .before .before .before .power in
-    count-more _ _ _ _ _ (loop .inv) (loop-test .taken) (ap boolByte (wider-is _ _ _ (s .pre .0) (s .pre .1) (omega (arith, shared-slice-known .given (loop .i))) (power .ensures))))
+    count-more _ _ _ _ _ (loop .inv) (loop-test .taken)
+    (ap boolByte (wider-is _ _ _ (s .pre .0) (s .pre .1) (omega (arith, shared-slice-known .given (loop .i))) (power .ensures))))
     (λ c. count-end _ _ _ _ (c .before .loop .inv) (c .loop-test .left)))

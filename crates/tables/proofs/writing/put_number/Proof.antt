@@ -35,7 +35,8 @@ put-number-spec = tie.close (tie.spec
     let loop-test = c .before .before .loop-test in
     let digit-at = c .before .digit-at in
     place-more _ _ _ (omega arith) _ _ _ _ _ _ (loop .inv) (loop-test .taken)
-    (digit-at .ensures .1 .whole) (digit-at .ensures .1 .below) (digit-at .ensures .1 .nine (place-nine _ _ _ (omega arith) _ _ _ _ (loop .inv))))
+    (digit-at .ensures .1 .whole) (digit-at .ensures .1 .below)
+    (digit-at .ensures .1 .nine (place-nine _ _ _ (omega arith) _ _ _ _ (loop .inv))))
     (λ c. omega (arith, place-last _ _ _ (omega arith) _ _ _ _ (c .before .loop .inv) (c .loop-test .left)))
     (λ c. omega (arith, place-last _ _ _ (omega arith) _ _ _ _ (c .before .loop .inv) (c .loop-test .left)))
     (λ c. let loop = c .before .loop in

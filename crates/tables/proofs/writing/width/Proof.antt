@@ -15,8 +15,14 @@ width-spec = tie.close (tie.spec
     (λ c. let loop = c .before .before .before .loop in
     let loop-test = c .before .before .loop-test in
     let power = c .before .power in
-    let if1 = c .if1 in
-    (omega (arith, width-found _ (omega arith) _ _ (loop .inv) (loop-test .taken) (power .ensures) (omega (arith, if1 .taken))), omega (arith, loop .inv .high)))
+    let if1 = c .if1 in (
+      omega (
+        arith,
+        width-found _ (omega arith) _ _ (loop .inv) (loop-test .taken) (power .ensures)
+            (omega (arith, if1 .taken)),
+      ),
+      omega (arith, loop .inv .high),
+    ))
     (λ c. omega arith)
     (λ c. omega arith)
     (λ c. let loop = c .before .before .before .loop in

@@ -32,5 +32,6 @@ write-file-spec = tie.close (tie.spec
     let text-fits = c .before .before .before .before .before .before .before .before .before .text-fits in
     let if2 = c .before .before .before .before .before .before .before .before .if2 in
     let put-bytes = c .before .before .before .before .before .before .put-bytes in
-    accept _ _ _ _ _ _ _ _ _ (enum-told .given .1) (put-words .ensures .0) (omega (arith, if1 .left, not-too-long _ _ _ (text-fits .ensures) (if2 .left)))
+    accept _ _ _ _ _ _ _ _ _ (enum-told .given .1) (put-words .ensures .0)
+    (omega (arith, if1 .left, not-too-long _ _ _ (text-fits .ensures) (if2 .left)))
     (put-bytes .ensures) (put-words .ensures .1)))
