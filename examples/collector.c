@@ -37,7 +37,7 @@ static void print_row(const uint32_t *row)
 {
     int indent = 2 * (int)row[GABZERIL_DEEP];
     printf("%*s%u/%u ", indent, "", (unsigned)row[GABZERIL_DEVICE], (unsigned)row[GABZERIL_AT]);
-    printf("name %u value %u\n", (unsigned)row[GABZERIL_NAME], (unsigned)row[GABZERIL_VALUE]);
+    printf("name %u value %d\n", (unsigned)row[GABZERIL_NAME], (int)gabzeril_value(row[GABZERIL_VALUE]));
 }
 
 static void print_marked(size_t rows)

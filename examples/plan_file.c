@@ -29,9 +29,13 @@ enum { FORMS = sizeof forms / sizeof forms[0] };
 
 static const char *const column_names[GABZERIL_ROW_WORDS] = {"DEVICE", "AT", "UP", "DEEP", "NAME", "VALUE"};
 
+static const char no_number[] = " is not a number up to 4294967295, in digits without leading zeros";
+static const char no_value[] =
+    " is not a number from -2147483648 to 2147483647, in digits without leading zeros; 0 has no sign";
+
 /* The words of a line. No good line has more words, and no good word more bytes: what is beyond is counted or
  * dropped, and the line is wrong. */
-enum { LINE_WORDS = 1 + GABZERIL_ROW_WORDS, WORD_BYTES = 11 };
+enum { LINE_WORDS = 1 + GABZERIL_ROW_WORDS, WORD_BYTES = 12 };
 
 struct line {
     size_t number; /* from 1 */
@@ -86,19 +90,26 @@ static int read_line(FILE *stream, struct line *line)
     return some;
 }
 
-/* 0 if the word is no number. Ten digits are below 2 to the power of 34, so nothing wraps. */
-static int read_number(const char *word, uint32_t *number)
+/* 0 if the word is no number of that column: a value may be below zero, and zero has no sign. Ten digits are below 2
+ * to the power of 34, so nothing wraps. */
+static int read_number(const char *word, int column, uint32_t *number)
 {
-    uint64_t sum = 0;
-    size_t length = strspn(word, "0123456789");
-    if (length == 0 || length > 10 || word[length] != '\0' || (word[0] == '0' && length > 1)) {
+    int is_value = column == GABZERIL_VALUE, minus = is_value && word[0] == '-';
+    int64_t sum = 0, least = is_value ? GABZERIL_VALUE_LEAST : 0, most = is_value ? GABZERIL_VALUE_LIMIT : UINT32_MAX;
+    const char *digits = word + minus;
+    size_t length = strspn(digits, "0123456789");
+    if (length == 0 || length > 10 || digits[length] != '\0' || (digits[0] == '0' && (minus || length > 1))) {
         return 0;
     }
     for (size_t i = 0; i < length; i++) {
-        sum = 10 * sum + (uint64_t)(word[i] - '0');
+        sum = 10 * sum + (digits[i] - '0');
     }
-    *number = (uint32_t)sum;
-    return sum <= UINT32_MAX;
+    sum = minus ? -sum : sum;
+    if (sum < least || sum > most) {
+        return 0;
+    }
+    *number = is_value ? gabzeril_word((int32_t)sum) : (uint32_t)sum;
+    return 1;
 }
 
 static _Noreturn void refuse_line(const char *path, const struct line *line, const char *what, const char *of)
@@ -129,9 +140,8 @@ static void read_step(const char *path, const struct line *line, uint32_t step[G
     }
     for (size_t i = 0; i < form->count; i++) {
         int column = form->columns[i];
-        if (!read_number(line->words[1 + i], &step[1 + column])) {
-            refuse_line(path, line, column_names[column],
-                        " is not a number up to 4294967295, in digits without leading zeros");
+        if (!read_number(line->words[1 + i], column, &step[1 + column])) {
+            refuse_line(path, line, column_names[column], column == GABZERIL_VALUE ? no_value : no_number);
         }
     }
 }
@@ -170,8 +180,10 @@ int step_text(const uint32_t *step, char text[STEP_BYTES])
     const struct form *form = &forms[step[0] - GABZERIL_STEP_SET];
     int length = snprintf(text, STEP_BYTES, "%s", form->word);
     for (size_t i = 0; i < form->count; i++) {
-        unsigned long number = step[1 + form->columns[i]];
-        length += snprintf(text + length, STEP_BYTES - (size_t)length, " %lu", number);
+        int column = form->columns[i];
+        uint32_t word = step[1 + column];
+        long long number = column == GABZERIL_VALUE ? (long long)gabzeril_value(word) : (long long)word;
+        length += snprintf(text + length, STEP_BYTES - (size_t)length, " %lld", number);
     }
     return length;
 }

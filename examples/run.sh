@@ -10,7 +10,7 @@
 #
 # Then plans on pool.txt: what is printed is compared with `expected-plan`, and with what docs/MANUAL.md shows. Each
 # verdict that a plan foretells must be the collector's on the pool with the steps done by hand, on the whole tables
-# and on the full parts made of them.
+# and on the full parts made of them. One plan, plan-optics.txt on optics.txt, has values below zero.
 #
 #   examples/run.sh [PROGRAMS]   the folder of the built programs; without it they are built with sanitizers
 set -eu
@@ -74,8 +74,27 @@ three_levels() {
     collect
 }
 
-three_levels > found
-same "three levels" "$here/expected" found
+# Optical powers in dBm: switch 2 receives too little. All its rows are its file again, signs too.
+below_zero() {
+    awk 'NR == 1 || $1 == 2' optics.txt | sed 's/-24$/-27/' > weak.txt
+    echo "values below zero: switch 2, modes 1 and 3"
+    run "$programs/switch" rules/power-at-least-minus-24.txt weak.txt 1 weak-part.txt
+    run cmp weak.txt weak-part.txt
+    run "$programs/switch" rules/power-at-least-minus-24.txt weak.txt 3 weak-part.txt
+    run cat weak-part.txt
+    echo "collector"
+    run "$programs/collector" rules/power-at-least-minus-24.txt weak-part.txt
+    run "$programs/collector" rules/receive-below-transmit.txt optics.txt
+    echo "a sign where none may stand, and a value without the sign that it needs"
+    run "$programs/collector" rules/sign-of-variable.txt optics.txt
+    sed '3s/ 3 / -3 /' optics.txt > wrong.txt
+    run "$programs/collector" rules/some-device.txt wrong.txt
+    sed 's/-24$/4294967272/' optics.txt > wrong.txt
+    run "$programs/collector" rules/some-device.txt wrong.txt
+}
+
+{ three_levels; below_zero; } > found
+same "three levels, values below zero" "$here/expected" found
 
 # All but the number of rows, which depends on the levels.
 answer() {
@@ -212,10 +231,11 @@ done
 # Plans.
 
 book=(rules/client-or-server.txt rules/at-most-one-server.txt rules/mtu-at-most-9000.txt rules/some-ntp-master.txt)
+optics=(rules/power-at-least-minus-24.txt rules/power-at-most-minus-3.txt rules/receive-below-transmit.txt)
 
-# A plan on pool.txt.
-try() { # plan
-    run "$programs/plan" "${book[@]}" -- pool.txt -- "$1"
+# A plan on pool.txt, or on another pool, with the rules of the book.
+try() { # plan [pool]
+    run "$programs/plan" "${book[@]}" -- "${2-pool.txt}" -- "$1"
 }
 
 # The same for a plan of these lines; only what is printed below the table.
@@ -240,7 +260,7 @@ refused_steps() {
     try_lines '' 'add 3 2 1 1 2 1'
     try_lines '' 'add 3 2 9 9 3 9'
     echo "numbers out of range"
-    try_lines 'set 1 4 2147483647' 'set 1 4 2147483648'
+    try_lines 'set 1 4 2147483647' 'set 1 4 -2147483648' 'add 3 4 1 1 65536 -1'
     try_lines 'add 3 0 1 1 3 101'
     echo "no parent; a later row is none"
     try_lines 'add 2 4 9 1 3 101'
@@ -249,6 +269,7 @@ refused_steps() {
     try_lines 'add 2 4 1 2 3 101'
     echo "two roots with one value"
     try_lines 'set 2 1 11'
+    try_lines 'set 2 1 -11' 'set 1 1 -11'
     echo "a rule turned false, then a refused step"
     try_lines 'set 3 2 3' 'remove 3 1'
     echo "more rows than a table may have"
@@ -270,6 +291,11 @@ accepted_plans() {
     echo "tabs, carriage returns, a comment right behind a number, a long one, no end of the last line"
     printf '\tset  1\t2 1 \r\n\r\n   # set\nset 4 2 2# server\n#%0100000d\nset 4 3 1' 0 > plan.txt
     try plan.txt
+    echo "values below zero"
+    run "$programs/plan" "${optics[@]}" -- optics.txt -- plan-optics.txt
+    echo "the least value and the largest"
+    printf '%s\n' 'add 1 1 0 0 1 -2147483648' 'add 1 2 1 1 3 1' 'add 1 3 2 2 8 2147483647' 'set 1 3 -2147483648' > plan.txt
+    run "$programs/plan" rules/some-least-value.txt "${optics[@]}" -- -- plan.txt
     echo "12,000 steps, and 32 rules"
     awk 'BEGIN { for (i = 0; i < 12000; i++) print "set 3 2", 1 + i % 2 }' > plan.txt
     run "$programs/plan" rules/some-device.txt -- pool.txt -- plan.txt | sed '6,12003d'
@@ -278,7 +304,10 @@ accepted_plans() {
 
 wrong_lines() {
     for line in 'move 1 2 3' 'SET 1 2 3' 'sets 1 2 3' '1 1 2 3' 'set1 2 3' 'set' 'set 1 2' 'set 1 2 # 3' 'set 1 2 3 4' \
-        'remove 1' 'remove 1 2 3' 'add 4 4 1 1 3' 'add 4 4 1 1 3 101 0' 'add 4 4 1 1 3 101 set 1 2 3' 'set 1 2 -1' \
+        'remove 1' 'remove 1 2 3' 'add 4 4 1 1 3' 'add 4 4 1 1 3 101 0' 'add 4 4 1 1 3 101 set 1 2 3' 'set -1 2 1' \
+        'remove 1 -2' 'add 4 4 -1 1 3 101' 'add 4 4 1 -1 3 101' 'add 4 4 1 1 -3 101' 'add 4 4 -0 1 3 101' 'set 1 2 -' \
+        'set 1 2 - 1' 'set 1 2 -0' 'set 1 2 -00' 'set 1 2 -01' 'set 1 2 --1' 'set 1 2 -+1' 'set 1 2 +1' 'set 1 2 1-' \
+        'set 1 2 2147483648' 'set 1 2 4294967295' 'set 1 2 -2147483649' 'set 1 2 -21474836480' 'add 4 4 1 1 3 -4294967295' \
         'set +1 2 1' 'set 1 02 1' 'set 1 2 4294967296' 'set 1 2 18446744073709551617' 'add 4 4 1 x 3 101' 'set 1 2 0x1' \
         'set 1,2,3' 'set 1 2 3;' 'add 4 4 1 1 3.0 101' 'add 4 4 y 1 3 101' '"set" 1 2 3'; do
         echo "$line"
@@ -350,7 +379,8 @@ shown_in_manual plan-remove
 
 # The verdicts in the line of a step.
 foretold() { # step
-    awk -v step="$1" '$1 == step { for (i = NF - 3; i <= NF; i++) print tolower($i) }' foretold | tr -d '*'
+    awk -v step="$1" -v rules="${#book[@]}" '$1 == step { for (i = NF - rules + 1; i <= NF; i++) print tolower($i) }' foretold |
+        tr -d '*'
 }
 
 # The verdicts of the collector.
@@ -382,21 +412,28 @@ check_state() { # plan step
     same "$1 after step $2, parts" found found-verdicts
 }
 
-for plan in plan-move plan-move-in-order plan-remove plan-new-switch; do
-    try "$plan.txt" > foretold
+# The verdicts before the first step and after each step done.
+check_plan() { # plan pool
+    local line lines words step=0 steps
+    try "$1.txt" "$2" > foretold
     steps=$(sed -n 's/^steps done \([0-9]*\) of.*/\1/p' foretold)
-    cp pool.txt state.txt
-    check_state "$plan" now
-    mapfile -t lines < <(sed -e 's/#.*//' -e '/^ *$/d' "$plan.txt" | head -n "$steps")
-    step=0
+    cp "$2" state.txt
+    check_state "$1" now
+    mapfile -t lines < <(sed -e 's/#.*//' -e '/^ *$/d' "$1.txt" | head -n "${steps:-0}")
     for line in "${lines[@]}"; do
         read -r -a words <<< "$line"
         by_hand "${words[@]}" > state-after.txt
         mv state-after.txt state.txt
         step=$((step + 1))
-        check_state "$plan" "$step"
+        check_state "$1" "$step"
     done
+}
+
+for plan in plan-move plan-move-in-order plan-remove plan-new-switch; do
+    check_plan "$plan" pool.txt
 done
+book=("${optics[@]}")
+check_plan plan-optics optics.txt
 
 echo "examples: $passed passed, $failed failed"
 [ "$failed" -eq 0 ]

@@ -5,6 +5,8 @@
  * Rules and tables are runs of 32-bit words that the caller lends: a rule has four words an entry
  * (kind a b c), a table six words a row (device at up deep name value). A set is rules laid end to end, and
  * a word for each that counts its entries. A plan has seven words a step, a kind and the words of a row.
+ * Words are numbers from 0 up, but for the value of a row and the constant of a comparison: there a word from
+ * 2147483648 up stands for a number below zero, the word less 4294967296; see gabzeril_word and gabzeril_value.
  * Lengths are in words for rules, counts, tables and plans, in bytes for files, marks and verdicts. NULL with
  * length 0 is an empty run. The library keeps no pointer, allocates nothing and has no state: calls on different
  * buffers may run side by side. Buffers of one call must not overlap.
@@ -28,7 +30,7 @@ extern "C" {
 #endif
 
 /* The Makefile reads the version from this line. */
-#define GABZERIL_VERSION "0.5.1"
+#define GABZERIL_VERSION "0.6.0"
 
 /* Limits. */
 
@@ -40,8 +42,9 @@ extern "C" {
 #define GABZERIL_NESTING_LIMIT 6 /* so many quantifiers stand around one another at most */
 #define GABZERIL_SET_LIMIT 32    /* a set has 1 to so many rules */
 
-#define GABZERIL_NAME_LIMIT 65535       /* device, at and name are 1 to this; so are names in quantifiers */
-#define GABZERIL_VALUE_LIMIT 2147483647 /* values and constants are 0 to this */
+#define GABZERIL_NAME_LIMIT 65535              /* device, at and name are 1 to this; so are names in quantifiers */
+#define GABZERIL_VALUE_LIMIT 2147483647        /* the largest value, and the largest constant */
+#define GABZERIL_VALUE_LEAST (-2147483647 - 1) /* the least; every word stands for one from this to the largest */
 
 /* Buffers that are never too short. A part has at most the words of the device's table, marks have a byte
  * for each row of the pool, verdicts and counts of a set have at most GABZERIL_SET_LIMIT, verdicts of a trial as
@@ -50,8 +53,8 @@ extern "C" {
 #define GABZERIL_RULE_WORDS (GABZERIL_ENTRY_LIMIT * GABZERIL_ENTRY_WORDS) /* any rule */
 #define GABZERIL_SET_WORDS (GABZERIL_SET_LIMIT * GABZERIL_RULE_WORDS)     /* the rules of any set */
 #define GABZERIL_TABLE_WORDS (GABZERIL_ROW_LIMIT * GABZERIL_ROW_WORDS)    /* any table, joined ones too */
-#define GABZERIL_RULE_FILE_BYTES 2187     /* the file of any rule: its first line, and 17 bytes an entry */
-#define GABZERIL_POOL_FILE_BYTES 40989    /* the file of any table: its first line, and 40 bytes a row */
+#define GABZERIL_RULE_FILE_BYTES 2315     /* the file of any rule: its first line, and 18 bytes an entry */
+#define GABZERIL_POOL_FILE_BYTES 42013    /* the file of any table: its first line, and 41 bytes a row */
 #define GABZERIL_PROGRAM_FILE_BYTES 65536 /* the longest file that gabzeril_report and the program take */
 #define GABZERIL_REPORT_BYTES 64          /* any text of gabzeril_report */
 
@@ -86,6 +89,19 @@ enum gabzeril_kind {
 /* b of a comparison: what c is. */
 #define GABZERIL_VARIABLE 0
 #define GABZERIL_CONSTANT 1
+
+/* The word that stands for a value or constant, 4294967295 for -1, and the value or constant that a word stands for.
+ * Comparisons follow the order of the values and not that of the words. Both functions belong to this header and not
+ * to the library. Where C asks for a constant expression, as in a static table, a cast gives the word: (uint32_t)-24. */
+static inline uint32_t gabzeril_word(int32_t value)
+{
+    return (uint32_t)value;
+}
+
+static inline int32_t gabzeril_value(uint32_t word)
+{
+    return word <= GABZERIL_VALUE_LIMIT ? (int32_t)word : -1 - (int32_t)(UINT32_MAX - word);
+}
 
 /* What a device sends. */
 enum gabzeril_mode { GABZERIL_ALL = 1, GABZERIL_BRANCH = 2, GABZERIL_FULL = 3 };
@@ -129,13 +145,13 @@ static inline const char *gabzeril_refusal_text(uint32_t number)
         /* 0 */ "accepted",
         /* 1 */ "the rule is empty, too long or not whole entries",
         /* 2 */ "unknown kind",
-        /* 3 */ "a word that must be 0 is not, b of a comparison is above 1, or a name or constant is out of range",
+        /* 3 */ "a word that must be 0 is not, b of a comparison is above 1, or a name is out of range",
         /* 4 */ "a child is not a later entry of the rule",
         /* 5 */ "an entry other than 0 is not the child of exactly one place",
         /* 6 */ "too many quantifiers around one another",
         /* 7 */ "a variable that is not bound there",
         /* 8 */ "the table is too long or not whole rows",
-        /* 9 */ "device, at, name or value out of range",
+        /* 9 */ "device, at or name out of range",
         /* 10 */ "the row is not above the row before it",
         /* 11 */ "no earlier row of the device is the parent",
         /* 12 */ "an earlier sibling has the same name and value",
@@ -145,7 +161,7 @@ static inline const char *gabzeril_refusal_text(uint32_t number)
         /* 16 */ "the second table's first device is not above the first table's last",
         /* 17 */ "the output is shorter than the answer",
         /* 18 */ "the file's first line is wrong or not ended",
-        /* 19 */ "a line of the file is not ended or not the right numbers",
+        /* 19 */ "a line of the file is not ended, or has a number too few or too many, out of range or written wrongly",
         /* 20 */ "the counts are none, too many or do not add up to the entries",
         /* 21 */ "not used",
         /* 22 */ "not used",
@@ -202,13 +218,17 @@ gabzeril_span gabzeril_device_rows(const uint32_t *table, size_t table_length, u
 
 /* Reading a file gives words only; every other call checks its tables. Refusals 18, 19, 17. Value: the
  * number of words. With a buffer of GABZERIL_RULE_WORDS or GABZERIL_TABLE_WORDS, 17 is a file with more lines
- * than a rule or a table may have. */
+ * than a rule or a table may have.
+ *
+ * In a file a value is GABZERIL_VALUE_LEAST to GABZERIL_VALUE_LIMIT, with a minus sign below zero, and so is c where
+ * the kind is 7, 8 or 9 and b is 1. All other numbers are 0 to 4294967295 and have no sign. */
 gabzeril_answer gabzeril_read_rule(const uint8_t *file, size_t file_length,
                                    uint32_t *rule, size_t rule_length);
 gabzeril_answer gabzeril_read_pool(const uint8_t *file, size_t file_length,
                                    uint32_t *table, size_t table_length);
 
-/* Writing a file. Refusals: those of the rule or table, then 17. Value: the number of bytes. */
+/* Writing a file, with the same signs. Refusals: those of the rule or table, then 17. Value: the number of
+ * bytes. */
 gabzeril_answer gabzeril_write_rule(const uint32_t *rule, size_t rule_length,
                                     uint8_t *file, size_t file_length);
 gabzeril_answer gabzeril_write_pool(const uint32_t *table, size_t table_length,

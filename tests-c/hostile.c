@@ -1,18 +1,19 @@
-/* Damaged rule and pool files through gabzeril_check_files and gabzeril_report; damaged sets of rules, in
- * hostile_sets.c, through the three calls on sets; damaged plans, in hostile_trial.c, through gabzeril_try.
+/* Damaged rule and pool files through gabzeril_check_files and gabzeril_report; signs and the order of values, in
+ * hostile_values.c, through the calls that read, write and compare; damaged sets of rules, in hostile_sets.c,
+ * through the three calls on sets; damaged plans, in hostile_trial.c, through gabzeril_try.
  *
  *     hostile [CASES [SEED [FIRST]]]
  *
- * Case number n from FIRST on depends on SEED and n alone, so that one case can be run again. It is two files
- * and, if n is even, a set, else a plan.
+ * Case number n from FIRST on depends on SEED and n alone, so that one case can be run again. It is two files,
+ * two values to compare and, if n is even, a set, else a plan.
  *
  * A sanitizer sees only code that was compiled with it, and the library's archive is not. So every buffer
  * lies against a page without access, at its end or at its start, and inputs are on pages that are read-only
  * during the call: an access outside a buffer, or a write to an input, ends the program. That this happens is
  * tried first, in child processes. The sanitizers watch this harness itself.
  *
- * Each answer is compared with the calls that it stands for: reading, checking, verdict. A run of many cases
- * must meet every answer that there is.
+ * Each answer is compared with the calls that it stands for: reading, checking, verdict. Reading is compared with
+ * a reader of the harness. A run of many cases must meet every answer that there is.
  */
 #define _DEFAULT_SOURCE
 
@@ -140,11 +141,14 @@ static void add_bytes(struct file *file, const void *bytes, size_t length)
     }
 }
 
-static void add_words(struct file *file, const uint32_t *words, size_t count)
+/* A line of words; the last of them has a sign if it is below zero, where it is a value or a constant. */
+static void add_words(struct file *file, const uint32_t *words, size_t count, int is_value)
 {
     for (size_t i = 0; i < count; i++) {
         char text[16];
-        int length = snprintf(text, sizeof text, "%u%c", (unsigned)words[i], i + 1 < count ? ' ' : '\n');
+        int last = i + 1 == count;
+        long long number = last && is_value ? (long long)gabzeril_value(words[i]) : (long long)words[i];
+        int length = snprintf(text, sizeof text, "%lld%c", number, last ? '\n' : ' ');
         add_bytes(file, text, (size_t)length);
     }
 }
@@ -167,7 +171,8 @@ static void set_comparison(struct rule *rule, uint32_t at, uint32_t bound)
 {
     uint32_t constant = below(2);
     uint32_t variables = bound == 0 || chance(2) ? bound + 1 : bound;
-    set_entry(rule, at, GABZERIL_EQUAL + below(3), below(variables), constant, below(constant ? 5 : variables));
+    uint32_t left = below(variables), right = constant ? some_value(5) : below(variables);
+    set_entry(rule, at, GABZERIL_EQUAL + below(3), left, constant, right);
 }
 
 void add_formula(struct rule *rule, uint32_t depth, uint32_t bound)
@@ -194,7 +199,7 @@ void add_formula(struct rule *rule, uint32_t depth, uint32_t bound)
 void quick_rule(struct rule *rule)
 {
     set_entry(rule, 0, 5 + below(2), 1, 0, 1 + below(3));
-    set_entry(rule, 1, 7 + below(3), 0, 1, below(5));
+    set_entry(rule, 1, 7 + below(3), 0, 1, some_value(5));
     rule->entries = 2;
 }
 
@@ -204,11 +209,20 @@ void deep_rule(struct rule *rule)
     for (uint32_t i = 0; i < depth; i++) {
         set_entry(rule, i, 5 + below(2), i + 1, chance(50) ? 0 : i, 1 + below(3));
     }
-    set_entry(rule, depth, 7, below(depth), 1, below(5));
+    set_entry(rule, depth, 7, below(depth), 1, some_value(5));
     rule->entries = depth + 1;
 }
 
 /* Rows. */
+
+uint32_t some_value(uint32_t spread)
+{
+    static const uint32_t ends[] = {GABZERIL_VALUE_LIMIT - 1, GABZERIL_VALUE_LIMIT, 1u << 31, (1u << 31) + 1, UINT32_MAX};
+    if (chance(5)) {
+        return ends[below(sizeof ends / sizeof ends[0])];
+    }
+    return below(spread) - (chance(50) ? spread / 2 : 0);
+}
 
 static void add_row(struct table *table, uint32_t device, uint32_t at, uint32_t up, uint32_t deep, uint32_t value)
 {
@@ -228,26 +242,30 @@ void add_rows(struct table *table, uint32_t rows, uint32_t next_device)
         at++;
         uint32_t up = chance(30) ? 0 : below(at);
         deep[at] = up == 0 ? 0 : deep[up] + 1;
-        add_row(table, device, at, up, deep[at], below(spread));
+        add_row(table, device, at, up, deep[at], some_value(spread));
     }
 }
 
 void add_many_rows(struct table *table)
 {
-    uint32_t rows = GABZERIL_ROW_LIMIT - 4 + below(8), shape = below(3);
+    uint32_t rows = GABZERIL_ROW_LIMIT - 4 + below(8), shape = below(3), below_zero = chance(50) ? rows / 2 : 0;
     for (uint32_t row = 0; row < rows; row++) {
         uint32_t up = shape == 0 || row == 0 ? 0 : shape == 1 ? 1 : row;
         uint32_t deep = up; /* in all three */
-        add_row(table, 1, row + 1, up, deep, row);
+        add_row(table, 1, row + 1, up, deep, row - below_zero);
     }
 }
 
 /* Damage. */
 
-static const char *const pieces[] = {" ", "  ", "\n", "\n\n", "\r\n", "\t", "\0", "0", "9", "-1", "+1",
+static const char *const pieces[] = {" ", "  ", "\n", "\n\n", "\r\n", "\t", "\0", "0", "9", "-", "-1", "+1",
                                      "4294967295", "4294967296", "18446744073709551616", "2147483648",
-                                     "65536", "00", "1 1 1 1\n", "1 1 0 1 1\n", pool_row, rule_line,
-                                     pool_line};
+                                     "-2147483648", "-2147483649", "-0", "65536", "00", "1 1 1 1\n", "1 1 0 1 1\n",
+                                     "1 1 0 0 1 -1\n", "7 0 1 -1\n", "7 0 0 -1\n", pool_row, rule_line, pool_line};
+
+/* What a file may end with. */
+static const char *const endings[] = {"-", " -", "-\n", "-1", "1 1 0 0 1 -", "1 1 0 0 1 -1", "1 1 0 0 1 -\n", "7 0 1 -",
+                                      "7 0 1 -1", "7 0 1 -\n", "7 0 0 -", "7 0 0 -1\n", "-7 0 1 1\n"};
 
 static void remove_bytes(struct file *file, size_t at, size_t length)
 {
@@ -294,21 +312,21 @@ static void insert_piece(struct file *file, size_t at)
     insert_bytes(file, at, piece, strlen(piece) + (piece[0] == '\0'));
 }
 
-/* Another fourth number in a line: the depth of a row, c of an entry. */
-static void change_fourth(struct file *file, size_t inside)
+/* Another number in a line, often the fourth: the depth of a row, c of an entry. */
+static void change_number(struct file *file, size_t inside)
 {
     static const char *const numbers[] = {"0", "1", "2", "3", "1023", "4294967295"};
-    const char *number = numbers[below(sizeof numbers / sizeof numbers[0])];
-    size_t start, length, first = 0, spaces = 0;
+    const char *number = chance(50) ? odd_spelling() : numbers[below(sizeof numbers / sizeof numbers[0])];
+    size_t start, length, first = 0, spaces = 0, before = chance(50) ? 3 : below(ROW_WORDS);
     line_around(file, inside, &start, &length);
-    while (first < length && spaces < 3) {
+    while (first < length && spaces < before) {
         spaces += file->bytes[start + first++] == ' ';
     }
     size_t end = first;
     while (end < length && file->bytes[start + end] != ' ' && file->bytes[start + end] != '\n') {
         end++;
     }
-    if (spaces == 3) {
+    if (spaces == before) {
         remove_bytes(file, start + first, end - first);
         insert_bytes(file, start + first, number, strlen(number));
     }
@@ -318,15 +336,16 @@ static void random_bytes(struct file *file)
 {
     file->length = below(300);
     for (size_t i = 0; i < file->length; i++) {
-        file->bytes[i] = chance(60) ? (uint8_t)" \n0123456789"[below(12)] : (uint8_t)draw();
+        file->bytes[i] = chance(60) ? (uint8_t)" \n-0123456789"[below(13)] : (uint8_t)draw();
     }
 }
 
 static void damage_once(struct file *file)
 {
     size_t at = below(file->length + 1), start, length;
+    const char *ending = endings[below(sizeof endings / sizeof endings[0])];
     int inside = at < file->length;
-    switch (below(13)) {
+    switch (below(14)) {
     case 0:
         random_bytes(file);
         break;
@@ -358,7 +377,10 @@ static void damage_once(struct file *file)
         }
         break;
     case 9:
-        change_fourth(file, at);
+        change_number(file, at);
+        break;
+    case 10:
+        insert_bytes(file, file->length, ending, strlen(ending));
         break;
     default:
         if (inside && file->bytes[at] >= '0' && file->bytes[at] <= '9') {
@@ -407,10 +429,11 @@ static void make_files(void)
         add_rows(&table, below(11), 25);
     }
     for (uint32_t at = 0; at < rule.entries; at++) {
-        add_words(&rule_file, rule.words + 4 * at, 4);
+        const uint32_t *entry = rule.words + 4 * at;
+        add_words(&rule_file, entry, 4, entry[GABZERIL_KIND] >= GABZERIL_EQUAL && entry[GABZERIL_B] == 1);
     }
     for (uint32_t row = 0; row < table.rows; row++) {
-        add_words(&pool_file, table.words + ROW_WORDS * row, ROW_WORDS);
+        add_words(&pool_file, table.words + ROW_WORDS * row, ROW_WORDS, 1);
     }
     if (chance(1)) {
         lengthen(chance(50) ? &rule_file : &pool_file, chance(50) ? "1 2 0 0\n" : pool_row);
@@ -527,12 +550,9 @@ static int run_files(void)
         return 0;
     }
     seen[answer]++;
-    if (!report_agrees(rule_bytes, pool_bytes)) {
-        print_case(stdout);
-        printf("report\n");
-        return 0;
-    }
-    return 1;
+    return agrees(report_agrees(rule_bytes, pool_bytes), "report") &&
+           agrees(reading_agrees(rule_bytes, rule_file.length, 1), "reading of the rule") &&
+           agrees(reading_agrees(pool_bytes, pool_file.length, 0), "reading of the pool");
 }
 
 static int run_case(uint64_t seed, unsigned long number)
@@ -540,9 +560,9 @@ static int run_case(uint64_t seed, unsigned long number)
     case_seed = seed;
     case_number = number;
     random_state = (seed << 32) + number;
-    int good_files = run_files();
+    int good_files = run_files(), good_order = run_order();
     random_state = ~random_state;
-    return (number % 2 == 0 ? run_set() : run_plan()) && good_files;
+    return (number % 2 == 0 ? run_set() : run_plan()) && good_files && good_order;
 }
 
 /* The harness itself. */
@@ -592,6 +612,7 @@ static void make_areas(void)
     text_area = new_area(2 * TEXT_BYTES);
     rule_words_area = new_area(RULE_WORDS * sizeof(uint32_t));
     pool_words_area = new_area(POOL_WORDS * sizeof(uint32_t));
+    make_areas_of_values();
     make_areas_of_sets();
     make_areas_of_plans();
 }
@@ -635,12 +656,14 @@ int main(int argc, char **argv)
 #ifdef __SANITIZE_ADDRESS__
     __sanitizer_set_death_callback(print_last_case);
 #endif
+    failed += count_wrong_values();
     for (unsigned long i = 0; i < cases; i++) {
         int good = run_case(seed, first + i);
         passed += (unsigned long)good;
         failed += (unsigned long)!good;
     }
     print_seen();
+    print_seen_by_values();
     print_seen_by_sets();
     print_seen_by_plans();
     if (cases >= MANY_CASES) {

@@ -1,4 +1,4 @@
-/* What damaged files, damaged sets and damaged plans share. */
+/* What damaged files, values, damaged sets and damaged plans share. */
 #ifndef HOSTILE_H
 #define HOSTILE_H
 
@@ -55,6 +55,9 @@ void quick_rule(struct rule *rule);
 /* Quantifiers around one another, as many as may be or one more. */
 void deep_rule(struct rule *rule);
 
+/* A value or constant. Few of them, from 0 on or on both sides of it; at times the least or the largest, or near. */
+uint32_t some_value(uint32_t spread);
+
 /* Tables. */
 
 struct table {
@@ -74,6 +77,24 @@ void print_case(FILE *stream);
 
 /* Prints what is wrong with the running case unless it is good. */
 int agrees(int good, const char *what);
+
+/* Values: hostile_values.c. */
+
+void make_areas_of_values(void);
+
+/* A text in the place of a number: mostly one that no column takes, or some do not. */
+const char *odd_spelling(void);
+
+/* Whether reading the file gives what it must, and what is accepted comes back when it is written. */
+int reading_agrees(const uint8_t *file, size_t length, int is_rule);
+
+/* Tries every odd spelling in every column, and words of all sizes; how many are not as they should be. */
+unsigned long count_wrong_values(void);
+
+void print_seen_by_values(void);
+
+/* Compares two values by all calls; 1 if all is as it should be. */
+int run_order(void);
 
 /* Sets: hostile_sets.c. */
 

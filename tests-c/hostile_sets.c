@@ -60,7 +60,7 @@ static void add_long_rule(void)
         memcpy(words + 4 * at, (uint32_t[4]){GABZERIL_NOT, at + 1, 0, 0}, 4 * sizeof *words);
     }
     memcpy(words + 4 * at, (uint32_t[4]){GABZERIL_SOME, at + 1, 0, 1}, 4 * sizeof *words);
-    memcpy(words + 4 * at + 4, (uint32_t[4]){GABZERIL_EQUAL, 0, 1, below(5)}, 4 * sizeof *words);
+    memcpy(words + 4 * at + 4, (uint32_t[4]){GABZERIL_EQUAL, 0, 1, some_value(5)}, 4 * sizeof *words);
     add_rule(words, entries);
 }
 

@@ -142,7 +142,7 @@ static void make_row(uint32_t *row)
     uint32_t up = under ? other[GABZERIL_AT] : 0, deep = under ? other[GABZERIL_DEEP] + 1 : 0;
     uint32_t device = near < state.rows && chance(80) ? other[GABZERIL_DEVICE] : 1 + below(6);
     uint32_t at = up + 1 + below(many || chance(50) ? 1 : 8);
-    uint32_t value = many ? 5000 + below(100000) : below(chance(50) ? 5 : 2000);
+    uint32_t value = many ? 5000 + below(100000) : some_value(chance(50) ? 5 : 2000);
     memcpy(row, (uint32_t[ROW_WORDS]){device, at, up, deep, 1 + below(3), value}, ROW_WORDS * sizeof *row);
     if (chance(8)) {
         row[GABZERIL_DEEP] += 1 - 2 * below(2);
@@ -166,7 +166,7 @@ static void make_step(uint32_t *step)
             step[1 + GABZERIL_AT] *= !chance(3);
         }
         if (chance(95)) {
-            step[1 + GABZERIL_VALUE] = below(chance(50) ? 5 : 2000);
+            step[1 + GABZERIL_VALUE] = some_value(chance(50) ? 5 : 2000);
         }
     }
     if (chance(3)) {

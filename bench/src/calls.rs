@@ -8,6 +8,7 @@ use gabzeril_tests::{checker, ffi};
 pub struct Side {
     check_table: fn(&[u32]) -> Answer,
     join: fn(&mut [u32], usize, &[u32]) -> Answer,
+    read_rule: fn(&[u8], &mut [u32]) -> Answer,
     read_pool: fn(&[u8], &mut [u32]) -> Answer,
     write_pool: fn(&[u32], &mut [u8]) -> Answer,
     write_rule: fn(&[u32], &mut [u8]) -> Answer,
@@ -24,6 +25,7 @@ pub struct Side {
 pub const LIBRARY: Side = Side {
     check_table: ffi::check_table,
     join: ffi::join,
+    read_rule: ffi::read_rule,
     read_pool: ffi::read_pool,
     write_pool: ffi::write_pool,
     write_rule: ffi::write_rule,
@@ -42,6 +44,7 @@ pub const LIBRARY: Side = Side {
 pub const CHECKER: Side = Side {
     check_table: checker::check_table,
     join: checker::join,
+    read_rule: checker::read_rule,
     read_pool: checker::read_pool,
     write_pool: checker::write_pool,
     write_rule: checker::write_rule,
@@ -66,6 +69,9 @@ pub enum Call {
     Join {
         first: Vec<u32>,
         second: Vec<u32>,
+    },
+    ReadRule {
+        file: Vec<u8>,
     },
     ReadPool {
         file: Vec<u8>,
@@ -155,6 +161,7 @@ impl Call {
             Call::CheckTable { table } => (side.check_table)(table),
             // Each call puts the second table behind the same first one.
             Call::Join { first, second } => (side.join)(words, first.len(), second),
+            Call::ReadRule { file } => (side.read_rule)(file, words),
             Call::ReadPool { file } => (side.read_pool)(file, words),
             Call::WritePool { table, room } => {
                 let room = room.unwrap_or(bytes.len());
@@ -190,6 +197,7 @@ impl Call {
         match self {
             Call::CheckTable { .. } => "check_table".into(),
             Call::Join { .. } => "join".into(),
+            Call::ReadRule { .. } => "read_rule".into(),
             Call::ReadPool { .. } => "read_pool".into(),
             Call::WritePool { .. } => "write_pool".into(),
             Call::WriteRule { .. } => "write_rule".into(),

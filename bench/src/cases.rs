@@ -5,9 +5,10 @@ use gabzeril_tests::largest;
 
 use crate::calls::Call;
 use crate::inputs::{
-    all_in_one_chain, children_in_one_chain, deep, devices, early, gathered, late, names_in_one_chain,
-    one_device, path, places_in_one_chain, roots, roots_in_one_chain, rule_book, values_of_nines,
-    values_of_ten_digits, with_no_parent, with_wrong_depth, with_wrong_depths, A, B, C,
+    all_in_one_chain, children_in_one_chain, deep, devices, early, gathered, late, longest_without_signs,
+    names_in_one_chain, one_device, path, places_in_one_chain, roots, roots_across_zero, roots_in_one_chain,
+    rule_book, values_below_zero, values_of_nines, values_of_ten_digits, with_no_parent, with_wrong_depth,
+    with_wrong_depths, A, B, C, ORDER,
 };
 use crate::trial;
 
@@ -53,6 +54,9 @@ fn write_pool_just_fits(table: Vec<u32>) -> Call {
 pub const THREE_ROWS: &str = "devices of three rows";
 const TEN_DIGITS: &str = "devices of three rows, values of ten digits";
 const NINES: &str = "devices of three rows, values of nines";
+const BELOW_ZERO: &str = "devices of three rows, values below zero";
+const LONGEST: &str = "longest rule, 128 entries";
+const LONGEST_WITHOUT_SIGNS: &str = "longest rule without signs, 128 entries";
 pub const ONE_DEVICE: &str = "one device";
 /// Each row hangs under the one before.
 const PATH: &str = "one path of rows";
@@ -109,7 +113,25 @@ pub fn all() -> Vec<Case> {
     of_the_rule_book(&mut cases);
     trial::add_cases(&mut cases);
     written_numbers(&mut cases);
+    signs(&mut cases);
     cases
+}
+
+/// Comparisons in order, and files with and without signs.
+fn signs(cases: &mut Vec<Case>) {
+    let rows = 256;
+    cases.push(case(verdict(&ORDER, roots(rows, 1)), "order rule, roots", rows));
+    cases.push(case(verdict(&ORDER, roots_across_zero(rows)), "order rule, roots across zero", rows));
+    let rows = 1_020;
+    for (table, on) in [(values_of_ten_digits(rows), TEN_DIGITS), (values_below_zero(rows), BELOW_ZERO)] {
+        cases.push(case(Call::ReadPool { file: POOL.text_of(&table) }, on, rows));
+    }
+    cases.push(case(write_pool(values_below_zero(rows)), BELOW_ZERO, rows));
+    let rules = [(longest_without_signs(), LONGEST_WITHOUT_SIGNS), (largest::longest_rule(), LONGEST)];
+    for (rule, on) in rules {
+        cases.push(case(Call::ReadRule { file: RULE.text_of(&rule) }, on, 0));
+    }
+    cases.push(case(Call::WriteRule { rule: largest::longest_rule() }, LONGEST, 0));
 }
 
 /// Writing of numbers with many digits, and with the largest digits.
@@ -119,7 +141,7 @@ fn written_numbers(cases: &mut Vec<Case>) {
         cases.push(case(write_pool(values_of_nines(rows)), NINES, rows));
     }
     // Rule B too, since the check of a long rule takes far more than its writing.
-    for (rule, on) in [(B.to_vec(), "rule B"), (largest::longest_rule(), "longest rule, 128 entries")] {
+    for (rule, on) in [(B.to_vec(), "rule B"), (longest_without_signs(), LONGEST_WITHOUT_SIGNS)] {
         cases.push(case(Call::WriteRule { rule }, on, 0));
     }
     let rows = 1_020;

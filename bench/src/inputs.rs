@@ -1,7 +1,10 @@
 //! Rules and pools of the benchmark.
 
-use gabzeril_tests::checker::{rows_of, words_of, Row, ENTRY_WORDS, MOST_NAME, MOST_NESTED, MOST_VALUE};
+use gabzeril_tests::checker::{
+    rows_of, words_of, Row, ENTRY_WORDS, LEAST_VALUE, MOST_NAME, MOST_NESTED, MOST_VALUE,
+};
 use gabzeril_tests::generate::{ats_of_hash, library_hash as hash, twin_hash, Set, STEPS};
+use gabzeril_tests::largest;
 
 /// Rule A of the contract: each device is client or server.
 pub const A: [u32; 24] = [5, 1, 0, 1, 3, 2, 4, 0, 6, 3, 1, 2, 7, 1, 1, 1, 6, 5, 1, 2, 7, 1, 1, 2];
@@ -44,11 +47,27 @@ pub fn under(parent: &Row, at: u32, name: u32, value: u32) -> Row {
 
 /// The rows of `devices(rows, 1)` with values of ten digits, close to the largest.
 pub fn values_of_ten_digits(rows: u32) -> Vec<u32> {
+    with_values_from(2_147_480_000, rows)
+}
+
+/// The same from the least on: ten digits and a sign.
+pub fn values_below_zero(rows: u32) -> Vec<u32> {
+    with_values_from(LEAST_VALUE, rows)
+}
+
+fn with_values_from(first: u32, rows: u32) -> Vec<u32> {
     let mut table = rows_of(&devices(rows, 1));
-    for (value, row) in (2_147_480_000..).zip(&mut table) {
+    for (value, row) in (first..).zip(&mut table) {
         row.value = value;
     }
     words_of(&table)
+}
+
+/// The longest rule with the largest constant in the place of the least, which has a sign.
+pub fn longest_without_signs() -> Vec<u32> {
+    let mut rule = largest::longest_rule();
+    rule.iter_mut().filter(|word| **word == LEAST_VALUE).for_each(|constant| *constant = MOST_VALUE);
+    rule
 }
 
 /// The rows of `devices(rows, 1)` with nines as every value. Siblings have names of their own, as none may be
@@ -140,6 +159,11 @@ pub fn gathered(rows: u32) -> Vec<u32> {
 /// Roots of one device with distinct values: 0, `step`, and so on.
 pub fn roots(rows: u32, step: u32) -> Vec<u32> {
     roots_of((0..rows).map(|row| row * step))
+}
+
+/// As many roots with values around zero.
+pub fn roots_across_zero(rows: u32) -> Vec<u32> {
+    roots_of((0..rows).map(|row| row.wrapping_sub(rows / 2)))
 }
 
 /// Roots of one device whose hashes in check 12 are all equal: the library links them in one chain.
@@ -261,6 +285,10 @@ fn next_entry(rule: &[u32]) -> u32 {
     (rule.len() / ENTRY_WORDS) as u32
 }
 
+/// Of every two roots the first is less than the second, or the second at most the first. Each pair is compared,
+/// once or twice.
+pub const ORDER: [u32; 20] = [5, 1, 0, 1, 5, 2, 0, 1, 3, 3, 4, 0, 8, 0, 0, 1, 9, 1, 0, 0];
+
 /// Some x0, and for every x1: x0 is at most a value that no root exceeds. The inner quantifier is settled whatever row x1 has.
 pub fn early() -> Vec<u32> {
     vec![6, 1, 0, 1, 5, 2, 0, 1, 9, 0, 1, MOST_VALUE]
@@ -306,7 +334,7 @@ fn at_most_one(name: u32, value: u32) -> Vec<u32> {
 mod tests {
     use super::*;
     use gabzeril_tests::answer::Answer;
-    use gabzeril_tests::checker::{check_rule, check_set, check_table, set_verdicts, verdict};
+    use gabzeril_tests::checker::{check_rule, check_set, check_table, set_verdicts, value_of, verdict};
     use gabzeril_tests::generate::place_hash;
 
     #[test]
@@ -315,11 +343,13 @@ mod tests {
             let tables = [
                 devices(rows, 1),
                 values_of_ten_digits(rows),
+                values_below_zero(rows),
                 values_of_nines(rows),
                 one_device(rows),
                 gathered(rows),
                 roots(rows, 1),
                 roots(rows, 1_024),
+                roots_across_zero(rows),
                 roots_in_one_chain(rows),
                 names_in_one_chain(rows),
                 path(rows),
@@ -339,7 +369,7 @@ mod tests {
             assert_eq!(check_rule(&deep(rows)), Answer::Done(3 * MOST_NESTED - 1));
             assert_eq!(check_rule(&late(rows)), Answer::Done(4 * MOST_NESTED - 2));
         }
-        for rule in [&A[..], &B, &C, &early()] {
+        for rule in [&A[..], &B, &C, &early(), &ORDER, &longest_without_signs()] {
             assert_eq!(check_rule(rule), Answer::Done(rule.len() / 4));
         }
     }
@@ -347,7 +377,8 @@ mod tests {
     #[test]
     fn digits_are_as_described() {
         let all = |table: Vec<u32>, test: fn(u32) -> bool| rows_of(&table).iter().all(|row| test(row.value));
-        assert!(all(values_of_ten_digits(1_024), |value| value >= 1_000_000_000));
+        assert!(all(values_of_ten_digits(1_024), |value| (1_000_000_000..=MOST_VALUE).contains(&value)));
+        assert!(all(values_below_zero(1_024), |value| value_of(value) <= -1_000_000_000));
         assert!(all(values_of_nines(1_024), |value| value == 999_999_999));
     }
 
@@ -369,6 +400,8 @@ mod tests {
         assert_eq!(verdict(&deep(64), &roots(64, 1)), Answer::Done(1));
         assert_eq!(verdict(&late(64), &roots(64, 1)), Answer::Done(0));
         assert_eq!(verdict(&early(), &roots(64, 1)), Answer::Done(1));
+        assert_eq!(verdict(&ORDER, &roots(64, 1)), Answer::Done(1));
+        assert_eq!(verdict(&ORDER, &roots_across_zero(64)), Answer::Done(1));
     }
 
     #[test]

@@ -14,16 +14,21 @@ const E: u32 = 5;
 /// Nodes that no formula names have names from 6 up to this.
 const LAST_NAME: usize = 25;
 
-/// 004's formulas 1 to 4. The fourth has the constant -1: it is run on values and with constants that are all
-/// one higher.
+/// The word of -1.
+const MINUS_1: u32 = u32::MAX;
+
+/// 004's formulas 1 to 4.
 fn formulas() -> [Vec<u32>; 4] {
     [
         vec![5, 1, 0, D, 5, 2, 1, A, 9, 1, 1, 0],
         vec![5, 1, 0, D, 5, 2, 1, A, 5, 3, 1, B, 8, 1, 0, 2],
         vec![6, 1, 0, D, 6, 2, 1, A, 6, 3, 1, B, 2, 4, 5, 0, 7, 2, 1, 3, 7, 1, 1, 0],
-        vec![6, 1, 0, D, 6, 2, 1, A, 5, 3, 0, E, 5, 4, 3, C, 2, 5, 6, 0, 7, 1, 1, 0, 7, 3, 1, 4],
+        vec![6, 1, 0, D, 6, 2, 1, A, 5, 3, 0, E, 5, 4, 3, C, 2, 5, 6, 0, 7, 1, 1, MINUS_1, 7, 3, 1, 3],
     ]
 }
+
+/// The value of a that meets the condition of each formula. The third wants 0 and the fourth -1.
+const MET: [u32; 4] = [0, 0, 0, MINUS_1];
 
 struct Size {
     name: &'static str,
@@ -43,8 +48,9 @@ const SIZES: [Size; 3] = [
 /// How the nodes of a device are made.
 #[derive(Clone, Copy, PartialEq)]
 enum Nodes {
-    /// As many nodes under the formulas' paths as Table 7 counts, with values that meet every condition.
-    Met,
+    /// As many nodes under the formulas' paths as Table 7 counts, with this value of a, and values of the others
+    /// that meet every condition.
+    Met(u32),
     /// The same nodes, with random values.
     Values,
     /// Every name and parent at random.
@@ -65,9 +71,8 @@ pub fn print() {
 }
 
 fn print_line(size: &Size, index: usize, formula: &[u32]) {
-    let raised = (index == 3) as u32;
-    let of = |nodes: Nodes| rounds(size, formula, nodes, raised);
-    let (met, values, all) = (of(Nodes::Met), of(Nodes::Values), of(Nodes::All));
+    let of = |nodes: Nodes| rounds(size, formula, nodes);
+    let (met, values, all) = (of(Nodes::Met(MET[index])), of(Nodes::Values), of(Nodes::All));
     assert_eq!(met.sum.rows[1], values.sum.rows[1], "mode 2 looks at no value");
     let joined = if met.sum.whole_fits { "1, 2, 3: one verdict" } else { "2, 3: one verdict; 1: refusal 8" };
     println!(
@@ -103,13 +108,12 @@ impl Rounds {
     }
 }
 
-fn rounds(size: &Size, formula: &[u32], nodes: Nodes, raised: u32) -> Rounds {
+fn rounds(size: &Size, formula: &[u32], nodes: Nodes) -> Rounds {
     let mut sum = Sent { rows: [0; 3], whole_fits: true };
     for seed in 0..ROUNDS {
         let mut random = Random::new(seed);
-        let devices: Vec<_> = (1..=size.devices)
-            .map(|device| device_of(&mut random, device, size.nodes, nodes, raised))
-            .collect();
+        let devices: Vec<_> =
+            (1..=size.devices).map(|device| device_of(&mut random, device, size.nodes, nodes)).collect();
         let sent = send(formula, &devices);
         sum.whole_fits &= sent.whole_fits;
         for (sum, rows) in sum.rows.iter_mut().zip(sent.rows) {
@@ -190,17 +194,17 @@ impl Device {
     }
 }
 
-fn device_of(random: &mut Random, number: u32, nodes: usize, kind: Nodes, raised: u32) -> Vec<u32> {
+fn device_of(random: &mut Random, number: u32, nodes: usize, kind: Nodes) -> Vec<u32> {
     let mut device = Device { number, rows: vec![] };
     if kind != Nodes::All {
-        add_named(random, &mut device, nodes, kind, raised);
+        add_named(random, &mut device, nodes, kind);
     }
     while device.rows.len() < nodes {
         let at = random.below(device.rows.len() + 1) as u32;
         let up = if random.chance(20) { 0 } else { at };
         if kind == Nodes::All {
             let name = random.between(1, LAST_NAME) as u32;
-            let value = if up == 0 { device.own_value() } else { random.below(5) as u32 };
+            let value = if up == 0 { device.own_value() } else { random_value(random) };
             if !device.has_sibling(up, name, value) {
                 device.add(up, name, value);
             }
@@ -211,16 +215,24 @@ fn device_of(random: &mut Random, number: u32, nodes: usize, kind: Nodes, raised
     words_of(&device.rows)
 }
 
+/// From -1 to 3.
+fn random_value(random: &mut Random) -> u32 {
+    (random.below(5) as u32).wrapping_sub(1)
+}
+
 /// Two d with an a and a b each, an e with a c; one d where there are only five nodes.
-fn add_named(random: &mut Random, device: &mut Device, nodes: usize, kind: Nodes, raised: u32) {
-    let mut value = |met: u32| raised + if kind == Nodes::Met { met } else { random.below(4) as u32 };
+fn add_named(random: &mut Random, device: &mut Device, nodes: usize, kind: Nodes) {
+    let mut values = || match kind {
+        Nodes::Met(a) => [a, 3],
+        _ => [random_value(random), random_value(random)],
+    };
     for _ in 0..if nodes == 5 { 1 } else { 2 } {
         let d = device.add(0, D, device.own_value());
-        // Formula 4 wants -1, which is 0 when raised.
-        let a = if raised == 1 && kind == Nodes::Met { 0 } else { value(0) };
+        let [a, b] = values();
         device.add(d, A, a);
-        device.add(d, B, value(3));
+        device.add(d, B, b);
     }
     let e = device.add(0, E, device.own_value());
-    device.add(e, C, value(3));
+    let [_, c] = values();
+    device.add(e, C, c);
 }

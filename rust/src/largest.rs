@@ -1,8 +1,8 @@
 //! The largest accepted inputs, for calls on a small stack.
 
 use crate::checker::{
-    rows_of, words_of, Row, ADD, ENTRY_WORDS, MOST_ENTRIES, MOST_NAME, MOST_NESTED, MOST_ROWS, MOST_RULES,
-    MOST_VALUE, REMOVE, SET, STEP_WORDS,
+    rows_of, words_of, Row, ADD, ENTRY_WORDS, LEAST_VALUE, MOST_ENTRIES, MOST_NAME, MOST_NESTED, MOST_ROWS,
+    MOST_RULES, REMOVE, SET, STEP_WORDS,
 };
 use crate::generate::Set;
 
@@ -205,7 +205,7 @@ pub fn refused_steps(table: &[u32]) -> Vec<Vec<u32>> {
     let twin = Row { at: last.at, ..above };
     vec![
         [set, step(ADD, &Row { device: 2, ..last })].concat(),
-        [removed, step(ADD, &Row { value: MOST_VALUE + 1, ..last })].concat(),
+        [removed, step(ADD, &Row { name: MOST_NAME + 1, ..last })].concat(),
         [removed, step(ADD, &Row { up: last.at, deep: 1, ..last })].concat(),
         [removed, step(ADD, &Row { deep: last.deep + 1, ..last })].concat(),
         [removed, step(ADD, &twin)].concat(),
@@ -220,25 +220,25 @@ fn step(kind: u32, row: &Row) -> [u32; STEP_WORDS] {
 }
 
 /// The accepted rule with the longest file: one quantifier, then connectives, each with a comparison to its
-/// left. No other kind has longer lines.
+/// left, with -2,147,483,648. No other kind has longer lines.
 pub fn longest_rule() -> Vec<u32> {
     let mut rule = vec![5, 1, 0, MOST_NAME];
     while rule.len() / ENTRY_WORDS + 2 < MOST_ENTRIES {
         let place = (rule.len() / ENTRY_WORDS) as u32;
-        rule.extend([2, place + 1, place + 2, 0, 9, 0, 1, MOST_VALUE]);
+        rule.extend([2, place + 1, place + 2, 0, 9, 0, 1, LEAST_VALUE]);
     }
-    rule.extend([9, 0, 1, MOST_VALUE]);
+    rule.extend([9, 0, 1, LEAST_VALUE]);
     rule
 }
 
-/// The accepted pool with the longest file: every word has as many digits as it can. Each row hangs under the
-/// one before, so that none is less deep than it might be.
+/// The accepted pool with the longest file: every word has as many digits as it can, and the values, down to
+/// -2,147,483,648, have a sign. Each row hangs under the one before, so that none is less deep than it might be.
 pub fn longest_pool() -> Vec<u32> {
     let most = MOST_ROWS as u32;
     let row = |deep: u32| {
         let at = MOST_NAME - most + 1 + deep;
         let up = if deep == 0 { 0 } else { at - 1 };
-        Row { device: MOST_NAME, at, up, deep, name: MOST_NAME, value: MOST_VALUE - deep }
+        Row { device: MOST_NAME, at, up, deep, name: MOST_NAME, value: LEAST_VALUE + most - 1 - deep }
     };
     let rows: Vec<Row> = (0..most).map(row).collect();
     words_of(&rows)

@@ -5,11 +5,14 @@ use gabzeril_tests::checker::ROW_WORDS;
 use gabzeril_tests::compare::{calls, run};
 use gabzeril_tests::generate::*;
 
+const OTHER_VERDICT: &str = "another verdict by the order of the words";
+
 #[test]
 fn accepted_rules_and_pools() {
     let limit = Together { rows: 1_024, cost: 60_000 };
     let tally = run("accepted_rules_and_pools", 25_000, 100_000, |case| {
         let (rule, pool) = rule_and_pool(&mut case.random, limit);
+        case.note_met([(other_verdict(&rule, &pool), OTHER_VERDICT)]);
         calls::verdict(case, &rule, &pool);
         let rows = pool.len() / ROW_WORDS;
         for length in some_lengths_around(&mut case.random, rows) {
@@ -19,6 +22,7 @@ fn accepted_rules_and_pools() {
     });
     tally.saw_each([17], 5_000);
     tally.saw_both_values(20_000);
+    tally.saw_noted(OTHER_VERDICT, 700);
 }
 
 #[test]

@@ -84,13 +84,18 @@ fn writing_pools() {
 /// What was written is read back; a file of more lines than a table may have is read as well.
 #[test]
 fn long_files() {
-    run("long_files", 3, 20, |case| {
-        let table = largest::longest_pool();
-        let text = POOL.text_of(&table);
-        for length in [text.len() - 1, text.len(), text.len() + 9] {
-            let output = case.random.bytes(length);
+    run("long_files", 3, 40, |case| {
+        let (rule, table) = (largest::longest_rule(), largest::longest_pool());
+        let (rule_file, pool_file) = (RULE.text_of(&rule), POOL.text_of(&table));
+        for beyond in [0, 1, 10] {
+            let output = case.random.bytes(rule_file.len() - 1 + beyond);
+            calls::write_rule(case, &rule, &output);
+            let output = case.random.bytes(pool_file.len() - 1 + beyond);
             calls::write_pool(case, &table, &output);
         }
+        let (output, other) = (case.random.words(rule.len()), case.random.words(table.len()));
+        calls::read_rule(case, &rule_file, &output);
+        calls::read_pool(case, &pool_file, &other);
         for lines in [129, 1_025, 4_000] {
             for (rule, columns) in [(true, RULE.columns), (false, POOL.columns)] {
                 let file = file_of_words(&mut case.random, rule, lines);

@@ -18,7 +18,7 @@ const TWO_DEVICES: [u32; 12] = [1, 1, 0, 0, 1, 1, 2, 1, 0, 0, 1, 2];
 const RULE_OF_ROOTS: [u32; 8] = [6, 1, 0, 1, 7, 0, 1, 1];
 
 /// What the header has beside constants.
-const OTHER_NAMES: [&str; 30] = [
+const OTHER_NAMES: [&str; 33] = [
     "GABZERIL_H",
     "gabzeril_answer",
     "gabzeril_check_files",
@@ -44,10 +44,13 @@ const OTHER_NAMES: [&str; 30] = [
     "gabzeril_step",
     "gabzeril_trial",
     "gabzeril_try",
+    "gabzeril_value",
     "gabzeril_verdict",
+    "gabzeril_word",
     "gabzeril_write_pool",
     "gabzeril_write_rule",
     "GABZERIL_UNDER",
+    "GABZERIL_VALUE_LEAST",
     "GABZERIL_VERSION",
 ];
 
@@ -285,14 +288,14 @@ fn refusal_numbers() -> BTreeSet<u64> {
 
 /// The longest words that the checks of words let pass: variable, b and constant of a comparison.
 fn longest_entry() -> Vec<u32> {
-    vec![9, MOST_NESTED as u32 - 1, 1, MOST_VALUE]
+    vec![9, MOST_NESTED as u32 - 1, 1, LEAST_VALUE]
 }
 
 /// No row hangs under more than all others.
 fn longest_row() -> Vec<u32> {
     let deep = MOST_ROWS as u32 - 1;
     let (device, at, up, name) = (MOST_NAME, MOST_NAME, MOST_NAME, MOST_NAME);
-    Row { device, at, up, deep, name, value: MOST_VALUE }.words().to_vec()
+    Row { device, at, up, deep, name, value: LEAST_VALUE }.words().to_vec()
 }
 
 #[test]
@@ -362,6 +365,13 @@ fn under_names_the_variable() {
     }
 }
 
+/// C would take -2147483648 for a minus sign before a number that int does not have.
+#[test]
+fn the_least_value_is_a_difference() {
+    assert_eq!(macro_text("GABZERIL_VALUE_LEAST"), "(-2147483647 - 1)");
+    assert_eq!(value_of(LEAST_VALUE), -i64::from(MOST_VALUE) - 1);
+}
+
 /// No entry and no row has a longer line, and accepted ones do not pass the lengths.
 #[test]
 fn files_fit_their_buffers() {
@@ -372,7 +382,7 @@ fn files_fit_their_buffers() {
             1 => [kind, child, 0, 0],
             2..=4 => [kind, child, child, 0],
             5 | 6 => [kind, child, 1 + variable, MOST_NAME],
-            _ => [kind, variable, 1, MOST_VALUE],
+            _ => [kind, variable, 1, LEAST_VALUE],
         };
         assert!(bytes(RULE, &words) <= bytes(RULE, &longest_entry()), "{words:?}");
     }

@@ -1,10 +1,12 @@
 //! The checks of rules and tables, joining, and the rows of one device.
 #![cfg(feature = "lower")]
 
-use gabzeril_tests::checker::{rows_of, words_of, MOST_NAME, MOST_ROWS, ROW_WORDS};
+use gabzeril_tests::checker::{rows_of, words_of, ENTRY_WORDS, LEAST_VALUE, MOST_NAME, MOST_ROWS, ROW_WORDS};
 use gabzeril_tests::compare::{calls, run, Case};
 use gabzeril_tests::generate::*;
 use gabzeril_tests::random::Random;
+
+const BELOW_ZERO: &str = "accepted with a value or constant below zero";
 
 #[test]
 fn rules() {
@@ -12,6 +14,8 @@ fn rules() {
         let random = &mut case.random;
         let vocabulary = Vocabulary::new(random);
         let accepted = rule(random, &vocabulary);
+        let is_below_zero = |words: &[u32]| matches!(words, [7..=9, _, 1, LEAST_VALUE..=u32::MAX]);
+        let below_zero = accepted.chunks(ENTRY_WORDS).any(is_below_zero);
         let mut one_fault = accepted.clone();
         let number = random.pick(&RULE_FAULTS);
         damage_rule(random, &mut one_fault, number);
@@ -20,8 +24,10 @@ fn rules() {
         for rule in [accepted, one_fault, several, any] {
             calls::check_rule(case, &rule);
         }
+        case.note_met([(below_zero, BELOW_ZERO)]);
     });
     tally.saw_each(0..=7, 2_000);
+    tally.saw_noted(BELOW_ZERO, 2_000);
 }
 
 #[test]
@@ -30,6 +36,7 @@ fn tables() {
         let random = &mut case.random;
         let vocabulary = Vocabulary::new(random);
         let accepted = pool(random, &vocabulary);
+        let below_zero = rows_of(&accepted).iter().any(|row| row.value >= LEAST_VALUE);
         let mut one_fault = accepted.clone();
         let number = random.pick(&TABLE_FAULTS);
         damage_table(random, &mut one_fault, number);
@@ -42,9 +49,11 @@ fn tables() {
                 calls::device_rows(case, &table, device);
             }
         }
+        case.note_met([(below_zero, BELOW_ZERO)]);
     });
     tally.saw_each([0], 2_000);
     tally.saw_each(TABLE_FAULTS, 2_000);
+    tally.saw_noted(BELOW_ZERO, 2_000);
 }
 
 #[test]

@@ -65,7 +65,7 @@ fn files() {
     let mut words = vec![0; table.len()];
     let answer = on_a_small_stack(|| ffi::read_pool(&text, &mut words));
     assert_eq!((answer, &words), (checker::read_pool(&text, &mut vec![0; table.len()]), &table));
-    for rule in largest::rules() {
+    for rule in largest::rules().into_iter().chain([largest::longest_rule()]) {
         let text = checker::RULE.text_of(&rule);
         let mut file = vec![0; text.len()];
         let answer = on_a_small_stack(|| ffi::write_rule(&rule, &mut file));

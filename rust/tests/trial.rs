@@ -23,6 +23,7 @@ const SET_AND_POOL: &str = "set and pool refused";
 const SET_AND_ROOM: &str = "set refused and no room for the pool";
 const POOL_AND_ROOM: &str = "pool refused and no room for it";
 const FAR: &str = "a set refused past entry 2,048";
+const OTHER_TRIAL: &str = "a plan with other verdicts by the order of the words";
 
 /// Compares the call, and notes what it met.
 fn compare(case: &mut Case, plan: &Plan, room: Room) -> Result<Tried, Refusal> {
@@ -55,8 +56,10 @@ fn steps_that_are_done() {
     let tally = run("steps_that_are_done", 30_000, 30_000, |case| {
         let plan = plan(&mut case.random, limit);
         compare(case, &plan, enough_room(&plan)).expect("no refusal");
+        case.note_met([(other_trial(&plan), OTHER_TRIAL)]);
     });
     tally.saw_each([0], 30_000);
+    tally.saw_noted(OTHER_TRIAL, 6_000);
     for (_, kind) in steps::KINDS {
         tally.saw_noted(&turned(kind), 2_000);
         tally.saw_noted(&unreached(kind), 10_000);
@@ -108,7 +111,7 @@ fn refused_steps() {
 fn steps_of_any_words() {
     let tally = run("steps_of_any_words", 20_000, 20_000, |case| {
         let random = &mut case.random;
-        let vocabulary = Vocabulary { names: vec![1, 2], values: vec![0, 1, 2, 3] };
+        let vocabulary = Vocabulary { names: vec![1, 2], values: vec![u32::MAX, 0, 1, 2] };
         let rows = random.below(12);
         let shape = PoolShape { devices: 2, step: 1, ..PoolShape::with_rows(random, rows) };
         let pool = pool_of(random, &vocabulary, shape);
@@ -253,7 +256,7 @@ fn many_steps() {
     };
     let plan = Plan { set, pool, steps: (0..MANY).flat_map(step).collect() };
     let mut refused = plan.clone();
-    refused.steps.extend([SET, 1, 1, 0, 0, 0, 1 << 31]);
+    refused.steps.extend([ADD, 1, 2, 0, 0, 0, 1]);
     run("many_steps", 1, 2, |case| {
         for (plan, number) in [(&plan, None), (&refused, Some(9))] {
             let left = compare(case, plan, enough_room(plan)).expect("no refusal before step 0");

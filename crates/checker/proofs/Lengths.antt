@@ -1,7 +1,7 @@
 -- The program's text has at most 64 bytes. Assumes nothing.
 use Prim.Native.Nat.{ℕ, zero, suc, _+_, _*_, _^_, _≤_, _<_}
-use mathlib.Core.Path.{_≡_, refl, ap}
-use mathlib.Core.Bool.{Bool, true, false, cond}
+use mathlib.Core.Path.{_≡_, refl, ap, _∙_}
+use mathlib.Core.Bool.{Bool, true, false, cond, and-false}
 use mathlib.Core.List.{List, [], _∷_}
 use native.Mathlib.Nat.{mul-add}
 use native.Mathlib.Numerals.{add-one}
@@ -14,12 +14,14 @@ use Rattle.tables.specs.Answers.{isDone, andThen, unless, value, output}
 use Rattle.tables.specs.Words.{rowCount, rows, rowAt}
 use Rattle.tables.specs.Rules.{checkRule, acceptedRule}
 use Rattle.tables.specs.Tables.{rowLimit, checkTable, acceptedTable}
-use Rattle.tables.specs.Files.{countNames, refusalNames, numberText, byteAfter, nextColumn, textFrom, writeText, checkFile, countWords, refusalWords}
+use Rattle.tables.specs.Files.{Format, countNames, countFormat, refusalNames, refusalFormat, isLast, nextColumn, toldNext, wordText, textFrom, linesText, writeText, checkFile}
 use Rattle.tables.specs.declared.Answer.{Answer}
 use Rattle.tables.specs.declared.Answer.the-variants.{Done, Refused}
 use Rattle.tables.proofs.Answers.{andThen-first, andThen-next, unless-next}
 use Rattle.tables.proofs.Accepted.{few-rows}
 use Rattle.tables.proofs.Digits.{digits-few}
+use Rattle.tables.proofs.Measures.{text-length}
+use Rattle.tables.proofs.Writes.{plain-text}
 use Rattle.logic.specs.Formulas.{formula}
 use Rattle.logic.specs.Verdict.{verdict}
 use Rattle.checker.specs.Files.{ruleOf, poolOf, ruleFile, poolFile}
@@ -30,18 +32,24 @@ use Rattle.checker.proofs.OwnRows.{count-few}
 use Rattle.checker.proofs.Marks.{marked-few, one-few}
 
 -- a number of at most n + 1 digits, the byte after it, and the rest
-number-few : (k c w : ℕ) (ws : List ℕ) (n : ℕ) → w < 10 ^ suc n → length (textFrom k c (w ∷ ws)) ≤ suc n + 1 + length (textFrom k (nextColumn k c) ws)
-unfolding textFrom
-number-few k c w ws n h = omega (arith, length-append (numberText w) (byteAfter k c ∷ textFrom k (nextColumn k c) ws), digits-few 10 n w h)
+number-few : (f : Format) (c w : ℕ) (ws : List ℕ) (n : ℕ) → w < 10 ^ suc n
+    → length (textFrom f c false (w ∷ ws)) ≤ suc n + 1 + length (textFrom f (nextColumn (f .columns) c) (toldNext f c w false) ws)
+number-few f c w ws n h =
+    omega (
+      arith,
+      text-length f c false w ws,
+      ap length (ap (λ (b : Bool). wordText b w) (and-false (isLast (f .columns) c)) ∙ plain-text false w refl),
+      digits-few 10 n w h,
+    )
 
 refusal-few : (k p : ℕ) → k ≤ largestRefusal → p ≤ fileLimit + rowLimit → length (refusalText k p) ≤ 64
 unfolding writeText textFrom
 refusal-few k p h l =
     omega (
       arith,
-      length-append refusalNames (textFrom refusalWords 0 (k ∷ p ∷ [])),
-      number-few refusalWords 0 k (p ∷ []) 1 (omega arith),
-      number-few refusalWords 1 p [] 4 (omega arith),
+      length-append refusalNames (linesText refusalFormat (k ∷ p ∷ [])),
+      number-few refusalFormat 0 k (p ∷ []) 1 (omega arith),
+      number-few refusalFormat 1 p [] 4 (omega arith),
     )
 
 counts-few : (a b c d e : ℕ) → a ≤ 1 → b ≤ rowLimit → c ≤ rowLimit * rowLimit → d ≤ rowLimit * rowLimit → e ≤ rowLimit
@@ -50,12 +58,12 @@ unfolding writeText textFrom
 counts-few a b c d e ha hb hc hd he =
     omega (
       arith,
-      length-append countNames (textFrom countWords 0 (a ∷ b ∷ c ∷ d ∷ e ∷ [])),
-      number-few countWords 0 a (b ∷ c ∷ d ∷ e ∷ []) 0 (omega arith),
-      number-few countWords 1 b (c ∷ d ∷ e ∷ []) 3 (omega arith),
-      number-few countWords 2 c (d ∷ e ∷ []) 6 (omega arith),
-      number-few countWords 3 d (e ∷ []) 6 (omega arith),
-      number-few countWords 4 e [] 3 (omega arith),
+      length-append countNames (linesText countFormat (a ∷ b ∷ c ∷ d ∷ e ∷ [])),
+      number-few countFormat 0 a (b ∷ c ∷ d ∷ e ∷ []) 0 (omega arith),
+      number-few countFormat 1 b (c ∷ d ∷ e ∷ []) 3 (omega arith),
+      number-few countFormat 2 c (d ∷ e ∷ []) 6 (omega arith),
+      number-few countFormat 3 d (e ∷ []) 6 (omega arith),
+      number-few countFormat 4 e [] 3 (omega arith),
     )
 
 sum-most : (f : ℕ → ℕ) (most n : ℕ) → ((i : ℕ) → f i ≤ most) → sumBelow f n ≤ most * n

@@ -7,7 +7,7 @@ use native.Mathlib.Omega.{arith}
 use lib.ListN.{length, take, drop, length-append}
 use lib.Seq.{take-at}
 use Rattle.tables.specs.Answers.{isDone, andThen}
-use Rattle.tables.specs.Files.{readWords, checkFile, readAnswer, readOut}
+use Rattle.tables.specs.Files.{Format, readWords, checkFile, readAnswer, readOut}
 use Rattle.tables.specs.declared.Answer.{Answer}
 use Rattle.tables.specs.declared.Answer.the-variants.{Done, Refused}
 use Rattle.tables.proofs.Answers.{andThen-passed}
@@ -26,44 +26,44 @@ refusal checked words out m p e = record {
   held = λ n z. absurd (not-done m p n z);
 }
 
-module _ (names : List ℕ) (k : ℕ) (check : List ℕ → Answer) (file out out′ : List ℕ) (a : Answer) (ea : a ≡ readAnswer names k file (length out)) (eo : out′ ≡ readOut names k file out) where
+module _ (names : List ℕ) (f : Format) (check : List ℕ → Answer) (file out out′ : List ℕ) (a : Answer) (ea : a ≡ readAnswer names f file (length out)) (eo : out′ ≡ readOut names f file out) where
   -- more words than the buffer has
   pub load-short : (long : ℕ) → ((ws : List ℕ) → length out < length ws → check ws ≡ Refused long 0) → (m p : ℕ) → a ≡ Refused m p → m ≡ 17
-      → Loaded (tableFile names k check file) (readWords names k file) (Refused long 0) out′
+      → Loaded (tableFile names f check file) (readWords names f file) (Refused long 0) out′
   load-short long over m p e h =
-      let s = read-short names k file (length out) p (sym ea ∙ e ∙ ap (λ (n : ℕ). Refused n p) h) in
-      refusal _ _ _ long 0 (andThen-passed (checkFile names k file) _ (s .passed) ∙ over (readWords names k file) (s .over))
+      let s = read-short names f file (length out) p (sym ea ∙ e ∙ ap (λ (n : ℕ). Refused n p) h) in
+      refusal _ _ _ long 0 (andThen-passed (checkFile names f file) _ (s .passed) ∙ over (readWords names f file) (s .over))
 
   -- 18 or 19
-  pub load-refused : (m p : ℕ) → a ≡ Refused m p → (m ≡ 17 → ⊥) → Loaded (tableFile names k check file) (readWords names k file) (Refused m p) out′
-  load-refused m p e h = refusal _ _ _ m p (ap (λ (x : Answer). andThen x (check (readWords names k file))) (read-refused names k file (length out) m p (sym ea ∙ e) h))
+  pub load-refused : (m p : ℕ) → a ≡ Refused m p → (m ≡ 17 → ⊥) → Loaded (tableFile names f check file) (readWords names f file) (Refused m p) out′
+  load-refused m p e h = refusal _ _ _ m p (ap (λ (x : Answer). andThen x (check (readWords names f file))) (read-refused names f file (length out) m p (sym ea ∙ e) h))
 
   module _ (n : ℕ) (e : a ≡ Done n) where
-    begins : out′ ≡ readWords names k file ++ drop (length (readWords names k file)) out
+    begins : out′ ≡ readWords names f file ++ drop (length (readWords names f file)) out
     unfolding readOut
     begins = eo ∙ rw (sym ea ∙ e)
 
-    count : n ≡ length (readWords names k file)
-    count = read-done names k file (length out) n (sym ea ∙ e) .count
+    count : n ≡ length (readWords names f file)
+    count = read-done names f file (length out) n (sym ea ∙ e) .count
 
-    passed : isDone (checkFile names k file) ≡ true
-    passed = read-done names k file (length out) n (sym ea ∙ e) .passed
+    passed : isDone (checkFile names f file) ≡ true
+    passed = read-done names f file (length out) n (sym ea ∙ e) .passed
 
     pub load-within : n ≤ length out′
-    load-within = rw begins (omega (arith, count, length-append (readWords names k file) (drop (length (readWords names k file)) out)))
+    load-within = rw begins (omega (arith, count, length-append (readWords names f file) (drop (length (readWords names f file)) out)))
 
-    words : take n out′ ≡ readWords names k file
-    words = rw begins (take-at (readWords names k file) (drop (length (readWords names k file)) out) n (sym count))
+    words : take n out′ ≡ readWords names f file
+    words = rw begins (take-at (readWords names f file) (drop (length (readWords names f file)) out) n (sym count))
 
-    checks : (r : Answer) → r ≡ check (take n out′) → tableFile names k check file ≡ r
-    checks r er = andThen-passed (checkFile names k file) _ passed ∙ sym (er ∙ ap check words)
+    checks : (r : Answer) → r ≡ check (take n out′) → tableFile names f check file ≡ r
+    checks r er = andThen-passed (checkFile names f file) _ passed ∙ sym (er ∙ ap check words)
 
     -- the table has a fault
-    pub load-fault : (r : Answer) (m p : ℕ) → r ≡ check (take n out′) → r ≡ Refused m p → Loaded (tableFile names k check file) (readWords names k file) (Refused m p) out′
+    pub load-fault : (r : Answer) (m p : ℕ) → r ≡ check (take n out′) → r ≡ Refused m p → Loaded (tableFile names f check file) (readWords names f file) (Refused m p) out′
     load-fault r m p er w = refusal _ _ _ m p (checks r er ∙ w)
 
     -- it has none
-    pub load-accepted : (r : Answer) (x : ℕ) → r ≡ check (take n out′) → r ≡ Done x → Loaded (tableFile names k check file) (readWords names k file) (Done n) out′
+    pub load-accepted : (r : Answer) (x : ℕ) → r ≡ check (take n out′) → r ≡ Done x → Loaded (tableFile names f check file) (readWords names f file) (Done n) out′
     load-accepted r x er w = record {
       answer = rw (checks r er ∙ w, count);
       within = λ m z. let q : n ≡ m = same m z in omega (arith, load-within);

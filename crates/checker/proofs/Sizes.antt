@@ -12,10 +12,10 @@ use Rattle.base.specs.Search.{first, some}
 use Rattle.base.proofs.Bools.{and-left, and-right}
 use Rattle.base.proofs.Search.{first-le}
 use Rattle.tables.specs.Answers.{number, place, andThen, unless, inOrder}
-use Rattle.tables.specs.Words.{entryWords, rowWords, entryCount, rowCount, rows}
+use Rattle.tables.specs.Words.{entryCount, rowCount, rows}
 use Rattle.tables.specs.Rules.{one, ruleLength, entryFault, ruleChecks, checkRule}
 use Rattle.tables.specs.Tables.{rowLimit, tableLength, rowFault, tableChecks, checkTable}
-use Rattle.tables.specs.Files.{ruleNames, poolNames, stepOf, scanAll, atStart, startsWith, atLine, atEnd, lines, readWords, checkFile}
+use Rattle.tables.specs.Files.{Format, ruleNames, ruleFormat, poolNames, poolFormat, stepOf, scanAll, atStart, startsWith, atLine, atEnd, lines, readWords, checkFile}
 use Rattle.tables.specs.declared.Answer.{Answer}
 use Rattle.tables.specs.declared.Answer.the-variants.{Done, Refused}
 use Rattle.tables.specs.declared.reading.Scan.{Scan}
@@ -65,34 +65,34 @@ small-table t = small-unless rowLimit (tableLength t) 8 _ (omega arith)
     (small-order (rowFault t) (rowCount t) tableChecks refl))
 
 -- a line more takes a byte
-line-le : (k : ℕ) (s : Scan) (bs : List ℕ) → scanAll k s bs .line ≤ s .line + length bs
+line-le : (f : Format) (s : Scan) (bs : List ℕ) → scanAll f s bs .line ≤ s .line + length bs
 unfolding scanAll
-line-le k s [] = omega arith
-line-le k s (b ∷ bs) = omega (arith, line-le k (stepOf k s b) bs, step-counted k s b .line-le)
+line-le f s [] = omega arith
+line-le f s (b ∷ bs) = omega (arith, line-le f (stepOf f s b) bs, step-counted f s b .line-le)
 
-small-lines : (names : List ℕ) (k : ℕ) (file : List ℕ) → Small (length file + rowLimit) (checkFile names k file)
+small-lines : (names : List ℕ) (f : Format) (file : List ℕ) → Small (length file + rowLimit) (checkFile names f file)
 unfolding checkFile
-small-lines names k file = go (startsWith names file) (atLine (atEnd names k file))
+small-lines names f file = go (startsWith names file) (atLine (atEnd names f file))
   where
     go : (a b : Bool)
-        → Small (length file + rowLimit) (cond a (cond b (Done (length (readWords names k file))) (Refused 19 (atEnd names k file .line))) (Refused 18 1))
+        → Small (length file + rowLimit) (cond a (cond b (Done (length (readWords names f file))) (Refused 19 (atEnd names f file .line))) (Refused 18 1))
     go true true = record { number-le = omega arith; place-le = omega arith }
     go true false = record {
       number-le = omega arith;
-      place-le = omega (arith, line-le k atStart (lines names file), length-drop (length names) file);
+      place-le = omega (arith, line-le f atStart (lines names file), length-drop (length names) file);
     }
     go false b = record { number-le = omega arith; place-le = omega arith }
 
-small-file : (names : List ℕ) (k : ℕ) (check : List ℕ → Answer) (file : List ℕ) → ((ws : List ℕ) → Small rowLimit (check ws))
-    → Small (length file + rowLimit) (tableFile names k check file)
-small-file names k check file h = small-then _ (checkFile names k file) _ (small-lines names k file)
-    (small-wider rowLimit (length file + rowLimit) _ (omega arith) (h (readWords names k file)))
+small-file : (names : List ℕ) (f : Format) (check : List ℕ → Answer) (file : List ℕ) → ((ws : List ℕ) → Small rowLimit (check ws))
+    → Small (length file + rowLimit) (tableFile names f check file)
+small-file names f check file h = small-then _ (checkFile names f file) _ (small-lines names f file)
+    (small-wider rowLimit (length file + rowLimit) _ (omega arith) (h (readWords names f file)))
 
 pub small-rule-file : (file : List ℕ) → Small (length file + rowLimit) (ruleFile file)
-small-rule-file file = small-file ruleNames entryWords checkRule file small-rule
+small-rule-file file = small-file ruleNames ruleFormat checkRule file small-rule
 
 pub small-pool-file : (file : List ℕ) → Small (length file + rowLimit) (poolFile file)
-small-pool-file file = small-file poolNames rowWords checkTable file small-table
+small-pool-file file = small-file poolNames poolFormat checkTable file small-table
 
 -- ---- the program's refusals: a place has at most five digits
 pub small-sized : (k : ℕ) (file : List ℕ) (next : Answer) → k ≤ largestRefusal → Small (length file + rowLimit) next → Small (fileLimit + rowLimit) (sized k file next)

@@ -10,7 +10,7 @@ use borrow.Author.Tests.{le-leb, lt-leb}
 use Rattle.tables.specs.Answers.{isDone, place, andThen, value}
 use Rattle.tables.specs.Rules.{checkRule, acceptedRule}
 use Rattle.tables.specs.Tables.{rowLimit, checkTable, acceptedTable}
-use Rattle.tables.specs.Files.{checkFile, writeText, writeAnswer, writeOut}
+use Rattle.tables.specs.Files.{Format, checkFile, writeText, writeAnswer, writeOut}
 use Rattle.tables.specs.declared.Answer.{Answer}
 use Rattle.tables.specs.declared.Answer.the-variants.{Done, Refused}
 use Rattle.tables.proofs.Answers.{andThen-next, unless-next}
@@ -28,10 +28,10 @@ Prints text out r out′ = (r ≡ printed text (length out)) × (out′ ≡ prin
 pub prints-same : {text text′ : List ℕ} (out : List ℕ) (r : ℕ) (out′ : List ℕ) → text ≡ text′ → Prints text out r out′ → Prints text′ out r out′
 prints-same out r out′ e h = subst (λ (t : List ℕ). Prints t out r out′) e h
 
-pub wrote : (names : List ℕ) (k : ℕ) (ws out out′ : List ℕ) (a : Answer) (r : ℕ) → a ≡ writeAnswer names k (Done 0) ws (length out) → out′ ≡ writeOut names k (Done 0) ws out → r ≡ value a
-    → Prints (writeText names k ws) out r out′
+pub wrote : (names : List ℕ) (f : Format) (ws out out′ : List ℕ) (a : Answer) (r : ℕ) → a ≡ writeAnswer names f (Done 0) ws (length out) → out′ ≡ writeOut names f (Done 0) ws out → r ≡ value a
+    → Prints (writeText names f ws) out r out′
 unfolding writeAnswer writeOut
-wrote names k ws out out′ a r ea eo er = (er ∙ ap value ea, eo)
+wrote names f ws out out′ a r ea eo er = (er ∙ ap value ea, eo)
 
 -- ---- files that are not too long
 pub too-long : (k : ℕ) (file : List ℕ) (next : Answer) (words out : List ℕ) → fileLimit < length file → Loaded (sized k file next) words (Refused k 0) out

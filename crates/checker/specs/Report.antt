@@ -9,7 +9,7 @@ use Rattle.base.specs.Search.{sumBelow}
 use Rattle.tables.specs.Answers.{andThen, unless, value, fitting, output}
 use Rattle.tables.specs.Words.{rows, rowAt, rowCount}
 use Rattle.tables.specs.Rules.{one}
-use Rattle.tables.specs.Files.{countNames, countWords, refusalNames, refusalWords, writeText}
+use Rattle.tables.specs.Files.{countNames, countFormat, refusalNames, refusalFormat, writeText}
 use Rattle.tables.specs.declared.Row.{Row}
 use Rattle.tables.specs.declared.Answer.{Answer}
 use Rattle.tables.specs.declared.Answer.the-variants.{Done, Refused}
@@ -69,11 +69,11 @@ counts rule pool =
 
 -- ---- the text
 abbrev pub countsText : List ℕ → List ℕ
-countsText words = writeText countNames countWords words
+countsText words = writeText countNames countFormat words
 
 -- a refusal prints its number and its place
 abbrev pub refusalText : ℕ → ℕ → List ℕ
-refusalText k p = writeText refusalNames refusalWords (k ∷ p ∷ [])
+refusalText k p = writeText refusalNames refusalFormat (k ∷ p ∷ [])
 
 abbrev pub textOf : Answer → List ℕ → List ℕ
 textOf (Done n) words = countsText words

@@ -5,9 +5,10 @@ use mathlib.Core.Bool.{Bool, true, false, not, cond, _&&_, and-false, and-true}
 use mathlib.Core.List.{List}
 use native.Mathlib.Omega.{arith}
 use lib.ListN.{getD}
-use lib.Dec.{eqb, ltb, leb}
+use lib.Dec.{eqb}
 use borrow.Author.Tests.{eq-eqb, ne-eqb}
 use Rattle.tables.specs.Words.{rowAt}
+use Rattle.tables.specs.Values.{isLess}
 use Rattle.tables.specs.Tables.{root, isParent}
 use Rattle.tables.specs.declared.Row.{Row}
 use Rattle.logic.specs.Formulas.{Over, roots, under, and, or, implies, overOf, operandOf}
@@ -24,10 +25,10 @@ value-row pool (suc i) r h e = let z : suc i - 1 ≡ i = omega arith in ap (λ (
 pub compare-equal : (k x y : ℕ) → k ≡ 7 → eqb x y ≡ compare (comparisonOf k) x y
 compare-equal k x y h = simp (eq-eqb k 7 h)
 
-pub compare-less : (k x y : ℕ) → (k ≡ 7 → ⊥) → k ≡ 8 → ltb x y ≡ compare (comparisonOf k) x y
+pub compare-less : (k x y : ℕ) → (k ≡ 7 → ⊥) → k ≡ 8 → isLess x y ≡ compare (comparisonOf k) x y
 compare-less k x y h g = simp (ne-eqb k 7 h, eq-eqb k 8 g)
 
-pub compare-at-most : (k x y : ℕ) → (k ≡ 7 → ⊥) → (k ≡ 8 → ⊥) → leb x y ≡ compare (comparisonOf k) x y
+pub compare-at-most : (k x y : ℕ) → (k ≡ 7 → ⊥) → (k ≡ 8 → ⊥) → not (isLess y x) ≡ compare (comparisonOf k) x y
 compare-at-most k x y h g = simp (ne-eqb k 7 h, ne-eqb k 8 g)
 
 module _ (pool places : List ℕ) where

@@ -6,9 +6,20 @@ use tables::Entry;
 ghost use mathlib.Core.Path.{_≡_};
 ghost use Prim.Native.Nat.{_<_};
 ghost use Rattle.tables.specs.Rules.{nestingLimit};
+ghost use Rattle.tables.specs.Values.{isLess};
 ghost use Rattle.logic.specs.Formulas.{operandOf};
 ghost use Rattle.logic.specs.Verdict.{compare, valueOf};
 ghost use Rattle.engine.specs.Ready.{Placed, comparisonOf, meant, comparedAt};
+
+// The signed order.
+fn is_less(x: u32, y: u32) -> bool
+    ensures { λ r. ⌜ r ≡ isLess x y ⌝ }
+{
+    if 2147483647 < x {
+        return !(2147483647 < y) | (x < y);
+    }
+    !(2147483647 < y) & (x < y)
+}
 
 // A comparison of kind 7, 8 or 9, for collector and switch; any other kind compares as 9 does.
 pub fn compare_values(kind: u32, x: u32, y: u32) -> bool
@@ -18,9 +29,9 @@ pub fn compare_values(kind: u32, x: u32, y: u32) -> bool
         return x == y;
     }
     if kind == 8 {
-        return x < y;
+        return is_less(x, y);
     }
-    x <= y
+    !is_less(y, x)
 }
 
 // What a variable is compared with.

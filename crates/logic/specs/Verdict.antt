@@ -3,10 +3,11 @@ use Prim.Native.Nat.{ℕ, suc}
 use mathlib.Core.Bool.{Bool, true, false, not, cond, _&&_, _||_}
 use mathlib.Core.List.{List, [], _∷_, map}
 use lib.ListN.{length}
-use lib.Dec.{eqb, ltb, leb}
+use lib.Dec.{eqb}
 use Rattle.base.specs.Lists.{select}
 use Rattle.tables.specs.Answers.{andThen, fitting, output}
 use Rattle.tables.specs.Words.{rows}
+use Rattle.tables.specs.Values.{isLess, isAtMost}
 use Rattle.tables.specs.Rules.{one, checkRule}
 use Rattle.tables.specs.Tables.{root, isParent, checkTable}
 use Rattle.tables.specs.declared.Row.{Row}
@@ -31,7 +32,7 @@ noneBound v = nothing
 abbrev pub bind : ℕ → Place → Bindings → Bindings
 bind x p b v = cond (eqb v x) p (b v)
 
--- ---- comparisons are of values
+-- ---- comparisons are of values, by the signed order
 abbrev pub valueAt : Place → ℕ
 valueAt nothing = 0
 valueAt (bound r) = r .value
@@ -42,8 +43,8 @@ valueOf b (constant k) = k
 
 abbrev pub compare : Comparison → ℕ → ℕ → Bool
 compare equal m n = eqb m n
-compare less m n = ltb m n
-compare atMost m n = leb m n
+compare less m n = isLess m n
+compare atMost m n = isAtMost m n
 
 -- ---- connectives
 abbrev pub connect : Connective → Bool → Bool → Bool

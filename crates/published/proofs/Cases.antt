@@ -5,7 +5,7 @@ use Rattle.tables.specs.Words.{rowsFrom}
 use Rattle.tables.specs.Rules.{aroundFrom, entryFault, checkRule}
 use Rattle.tables.specs.Tables.{rowFault, checkTable}
 use Rattle.tables.specs.Joining.{joinTables, joinAnswer, joinPool}
-use Rattle.tables.specs.Files.{digitsUpTo, byteAfter, textFrom, writeText, writeAnswer, writeOut}
+use Rattle.tables.specs.Files.{digitOf, byteAfter, digitsUpTo, wordText, textFrom, writeText, digitStep, otherStep, stepOf, scanAll, wordsFrom, startsWith, readWords, checkFile, readAnswer, readOut, writeAnswer, writeOut}
 use Rattle.sets.specs.Sets.{rulesFrom, ruleByRule, checkSet}
 use Rattle.plans.specs.Plans.{stepsFrom, stepPlace, tableAfter}
 use Rattle.logic.specs.Formulas.{formulas, formulaAt}
@@ -19,7 +19,7 @@ use Rattle.published.specs.Stated.{stated, treeOf, tree, published}
 use Rattle.published.specs.Cases.{right, cases, Worked, constraint1, addresses, AsPrinted}
 
 pub worked : Worked
-unfolding firstFrom sumBelow rowsFrom aroundFrom entryFault checkRule rowFault checkTable rulesFrom ruleByRule checkSet joinTables joinAnswer joinPool digitsUpTo byteAfter textFrom writeText writeAnswer writeOut formulas formulaAt holds verdict verdictAnswer setVerdictsAnswer setVerdictsOut reason marked marksAnswer marksOut reading reachedIn reached spareIn spare reachedByAny spareForEach lineage ancestors partBy branchPart fullPart partOf sendAnswer sendOut stepsFrom stepPlace tableAfter stepAnswer trySteps beginAnswer v _⊨_ stated treeOf tree published right cases
+unfolding firstFrom sumBelow rowsFrom aroundFrom entryFault checkRule rowFault checkTable rulesFrom ruleByRule checkSet joinTables joinAnswer joinPool digitOf byteAfter digitsUpTo wordText textFrom writeText digitStep otherStep stepOf scanAll wordsFrom startsWith readWords checkFile readAnswer readOut writeAnswer writeOut formulas formulaAt holds verdict verdictAnswer setVerdictsAnswer setVerdictsOut reason marked marksAnswer marksOut reading reachedIn reached spareIn spare reachedByAny spareForEach lineage ancestors partBy branchPart fullPart partOf sendAnswer sendOut stepsFrom stepPlace tableAfter stepAnswer trySteps beginAnswer v _⊨_ stated treeOf tree published right cases
 worked = refl
 
 pub as-printed : AsPrinted

@@ -1,4 +1,4 @@
--- 01's worked pools (a) to (l), numbers of every width, the reductions that lose a verdict, readings over roots, sets of rules, plans, and
+-- 01's worked pools (a) to (l), numbers of every width, values below zero, the reductions that lose a verdict, readings over roots, sets of rules, plans, and
 -- a table on which the published meaning is not that of rows: the rows of one table, with one test over all of them, proved in
 -- proofs/Cases. Assumes nothing.
 use Prim.Native.Nat.{ℕ, zero, suc, _+_, _-_, _*_}
@@ -13,7 +13,7 @@ use Rattle.tables.specs.Words.{rows, rowCount}
 use Rattle.tables.specs.Rules.{one, checkRule, acceptedRule}
 use Rattle.tables.specs.Tables.{checkTable}
 use Rattle.tables.specs.Joining.{joinAnswer, joinPool}
-use Rattle.tables.specs.Files.{countNames, writeCounts, writeCountsOut}
+use Rattle.tables.specs.Files.{Format, ruleNames, ruleFormat, poolNames, poolFormat, countNames, readAnswer, readOut, writeAnswer, writeOut, writeCounts, writeCountsOut}
 use Rattle.tables.specs.declared.Row.{Row}
 use Rattle.tables.specs.declared.Answer.{Answer}
 use Rattle.tables.specs.declared.Answer.the-variants.{Done, Refused}
@@ -69,6 +69,14 @@ beside i (suc n) = entry 3 (i + 1) (i + 3) 0 ++ entry 6 (i + 2) 0 1 ++ entry 7 0
 -- every a is k (name 1 is a, name 2 is b)
 abbrev pub everyIs : ℕ → List ℕ
 everyIs k = entry 5 1 0 1 ++ entry 7 0 1 k
+
+-- every a compares so with k
+abbrev pub everyCompares : ℕ → ℕ → List ℕ
+everyCompares kind k = entry 5 1 0 1 ++ entry kind 0 1 k
+
+-- the word of a number below zero
+abbrev pub below : ℕ → ℕ
+below n = 4294967296 - n
 
 -- every a is 1 or 2
 abbrev pub everyIsEither : List ℕ
@@ -140,6 +148,31 @@ nines n = replicate n 9
 abbrev pub textThen : ℕ → List ℕ → List ℕ
 textThen byte digits = map (λ d. 48 + d) digits ++ byte ∷ []
 
+-- a line of digits as text, and the same with a minus sign before its last number
+abbrev pub line : List (List ℕ) → List ℕ
+line [] = []
+line (ds ∷ []) = textThen 10 ds
+line (ds ∷ es ∷ rest) = textThen 32 ds ++ line (es ∷ rest)
+
+abbrev pub lineBelow : List (List ℕ) → List ℕ
+lineBelow [] = []
+lineBelow (ds ∷ []) = 45 ∷ textThen 10 ds
+lineBelow (ds ∷ es ∷ rest) = textThen 32 ds ++ lineBelow (es ∷ rest)
+
+-- a number of one digit; 2,147,483,640 with another last digit
+abbrev pub digit : ℕ → List ℕ
+digit d = d ∷ []
+
+abbrev pub limitWith : ℕ → List ℕ
+limitWith d = 2 ∷ 1 ∷ 4 ∷ 7 ∷ 4 ∷ 8 ∷ 3 ∷ 6 ∷ 4 ∷ d ∷ []
+
+-- a row's line up to its value, an entry's line up to its c
+abbrev pub rowTo : List ℕ → List (List ℕ)
+rowTo value = digit 1 ∷ digit 1 ∷ digit 0 ∷ digit 0 ∷ digit 1 ∷ value ∷ []
+
+abbrev pub entryTo : ℕ → ℕ → ℕ → List ℕ → List (List ℕ)
+entryTo kind a b c = digit kind ∷ digit a ∷ digit b ∷ c ∷ []
+
 -- ---- what a case gives and expects
 -- a row by (device, at)
 abbrev pub key : ℕ → ℕ → List ℕ
@@ -158,6 +191,10 @@ pub data Case : Type 0 where
   joins : List ℕ → List ℕ → Answer → Case
   -- words, written as the program's counts: the bytes after the line of names
   writes : List ℕ → List ℕ → Case
+  -- a kind of file, words, the bytes after the line of names: each comes from the other
+  filed : List ℕ → Format → (List ℕ → Answer) → List ℕ → List ℕ → Case
+  -- a kind of file, bytes after the line of names that are 19: the line
+  unfiled : List ℕ → Format → List ℕ → ℕ → Case
   -- what the checks of a set answer; rules, counts, pool: the bytes; rules, counts, mode, table: the rows sent
   setChecked : List ℕ → List ℕ → Answer → Case
   setJudged : List ℕ → List ℕ → List ℕ → List ℕ → Case
@@ -166,6 +203,18 @@ pub data Case : Type 0 where
   tries : List ℕ → List ℕ → List ℕ → List ℕ → ℕ → ℕ → ℕ → ℕ → ℕ → List ℕ → List ℕ → Case
   -- rule, a table that is not accepted: its refusal, the published truth, the verdict on rows
   differs : List ℕ → List ℕ → Answer → Bool → Bool → Case
+
+abbrev pub ruleFiled : List ℕ → List ℕ → Case
+ruleFiled words bytes = filed ruleNames ruleFormat checkRule words bytes
+
+abbrev pub poolFiled : List ℕ → List ℕ → Case
+poolFiled words bytes = filed poolNames poolFormat checkTable words bytes
+
+abbrev pub ruleUnfiled : List ℕ → ℕ → Case
+ruleUnfiled bytes place = unfiled ruleNames ruleFormat bytes place
+
+abbrev pub poolUnfiled : List ℕ → ℕ → Case
+poolUnfiled bytes place = unfiled poolNames poolFormat bytes place
 
 -- ---- whether it is so
 abbrev pub sameBool : Bool → Bool → Bool
@@ -217,6 +266,16 @@ right (writes words bytes) =
     && sameAnswer (writeCounts words (length file - 1)) (Refused 17 0)
     && sameWords (writeCountsOut words (buffer (length file - 1))) (buffer (length file - 1))
     && sameWords (writeCountsOut words (buffer (length file + 1))) (file ++ buffer 1)
+right (filed names f check words bytes) =
+    let file = names ++ bytes in
+    sameAnswer (readAnswer names f file (length words)) (Done (length words))
+    && sameWords (readOut names f file (buffer (length words + 1))) (words ++ buffer 1)
+    && sameAnswer (writeAnswer names f (check words) words (length file)) (Done (length file))
+    && sameAnswer (writeAnswer names f (check words) words (length file - 1)) (Refused 17 0)
+    && sameWords (writeOut names f (check words) words (buffer (length file + 1))) (file ++ buffer 1)
+right (unfiled names f bytes place) =
+    sameAnswer (readAnswer names f (names ++ bytes) 8) (Refused 19 place)
+    && sameWords (readOut names f (names ++ bytes) (buffer 8)) (buffer 8)
 right (setChecked rules counts answer) = sameAnswer (checkSet rules counts) answer
 right (setJudged rules counts pool bytes) =
     sameAnswer (setVerdictsAnswer rules counts pool (length counts)) (Done (length bytes))
@@ -261,7 +320,35 @@ cases =
     ∷ sends ruleB 3 D2 []
     -- (i)
     ∷ tableChecked (row 1 1 0 0 1 2147483647) (Done 1)
-    ∷ tableChecked (row 1 1 0 0 1 2147483648) (Refused 9 0)
+    ∷ tableChecked (row 1 1 0 0 1 2147483648) (Done 1)
+    ∷ tableChecked (row 1 1 0 0 1 4294967295) (Done 1)
+    ∷ ruleChecked (everyIs 2147483648) (Done 2)
+    ∷ ruleChecked (everyIs 4294967295) (Done 2)
+    -- -1 is less than 0, and 0 is not at most -1; -2,147,483,648 is less than -1, than 2,147,483,647, and not than itself
+    ∷ judged (everyCompares 8 0) (row 1 1 0 0 1 (below 1)) true (key 1 1)
+    ∷ judged (everyCompares 9 (below 1)) (row 1 1 0 0 1 0) false (key 1 1)
+    ∷ judged (everyCompares 8 (below 1)) (row 1 1 0 0 1 (below 2147483648)) true (key 1 1)
+    ∷ judged (everyCompares 8 2147483647) (row 1 1 0 0 1 (below 2147483648)) true (key 1 1)
+    ∷ judged (everyCompares 8 (below 2147483648)) (row 1 1 0 0 1 (below 2147483648)) false (key 1 1)
+    ∷ judged (everyCompares 9 (below 2147483648)) (row 1 1 0 0 1 (below 2147483648)) true (key 1 1)
+    -- on the switch too: 1 may decide, -1 may not
+    ∷ sends (everyCompares 8 0) 3 (row 1 1 0 0 1 1 ++ row 1 2 0 0 1 (below 1)) (row 1 1 0 0 1 1)
+    -- the lines of such values, and of such constants
+    ∷ poolFiled (row 1 1 0 0 1 (below 1)) (lineBelow (rowTo (digit 1)))
+    ∷ poolFiled (row 1 1 0 0 1 (below 2147483648)) (lineBelow (rowTo (limitWith 8)))
+    ∷ poolFiled (row 1 1 0 0 1 2147483647) (line (rowTo (limitWith 7)))
+    ∷ ruleFiled (everyCompares 8 (below 1)) (line (entryTo 5 1 0 (digit 1)) ++ lineBelow (entryTo 8 0 1 (digit 1)))
+    ∷ ruleFiled (everyIs (below 2147483648)) (line (entryTo 5 1 0 (digit 1)) ++ lineBelow (entryTo 7 0 1 (limitWith 8)))
+    -- 19: out of range on both sides, and -0
+    ∷ poolUnfiled (line (rowTo (limitWith 8))) 2
+    ∷ poolUnfiled (lineBelow (rowTo (limitWith 9))) 2
+    ∷ poolUnfiled (lineBelow (rowTo (digit 0))) 2
+    ∷ ruleUnfiled (line (entryTo 7 0 1 (limitWith 8))) 2
+    -- 19: a sign where none may stand: a variable's number, a name, c of an unknown kind. The line before does not matter.
+    ∷ ruleUnfiled (lineBelow (entryTo 7 0 1 (digit 5)) ++ lineBelow (entryTo 7 0 0 (digit 5))) 3
+    ∷ ruleUnfiled (lineBelow (entryTo 7 0 1 (digit 5)) ++ lineBelow (entryTo 5 1 1 (digit 5))) 3
+    ∷ ruleUnfiled (line (entryTo 5 1 0 (digit 1)) ++ lineBelow ((1 ∷ 0 ∷ []) ∷ digit 0 ∷ digit 1 ∷ digit 5 ∷ [])) 3
+    ∷ poolUnfiled (lineBelow (digit 1 ∷ digit 1 ∷ digit 0 ∷ digit 0 ∷ digit 1 ∷ [])) 2
     -- (j)
     ∷ tableChecked (D1 ++ row 1 4 1 1 2 2) (Refused 12 3)
     -- deep is wrong: 1 at a root; the parent's own; two more than the parent's; so large that one more would wrap
@@ -375,7 +462,9 @@ cases =
     ∷ tries (ruleA ++ ruleB) (6 ∷ 9 ∷ []) (D1 ++ D2) (removeStep 1 0) 60 8 24 0 0 (D1 ++ D2) []
     ∷ tries (ruleA ++ ruleB) (6 ∷ 9 ∷ []) (D1 ++ D2) (removeStep 1 3 ++ removeStep 1 1) 60 8 25 1 1 (row 1 1 0 0 1 11 ++ row 1 2 1 1 2 2 ++ D2) (1 ∷ 1 ∷ [])
     ∷ tries (ruleA ++ ruleB) (6 ∷ 9 ∷ []) (D1 ++ D2) (setStep 0 1 5) 60 8 24 0 0 (D1 ++ D2) []
-    ∷ tries (ruleA ++ ruleB) (6 ∷ 9 ∷ []) (D1 ++ D2) (setStep 1 4 2147483648) 60 8 24 0 0 (D1 ++ D2) []
+    -- a value may be any word
+    ∷ tries (ruleA ++ ruleB) (6 ∷ 9 ∷ []) (D1 ++ D2) (setStep 1 3 2147483648) 60 8 0 0 1
+    (row 1 1 0 0 1 11 ++ row 1 2 1 1 2 2 ++ row 1 3 1 1 3 2147483648 ++ D2) (1 ∷ 1 ∷ [])
     -- 9, 10, 11, 26 and 12 of the table after: the place is the step's number
     ∷ tries (ruleA ++ ruleB) (6 ∷ 9 ∷ []) (D1 ++ D2) (addStep 0 1 0 0 1 1) 60 8 9 0 0 (D1 ++ D2) []
     ∷ tries (ruleA ++ ruleB) (6 ∷ 9 ∷ []) (D1 ++ D2) (removeStep 1 3 ++ addStep 2 2 1 1 2 7) 60 8 10 1 1 (row 1 1 0 0 1 11 ++ row 1 2 1 1 2 2 ++ D2) (1 ∷ 1 ∷ [])

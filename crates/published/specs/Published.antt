@@ -5,8 +5,9 @@ use mathlib.Core.Path.{_≡_}
 use mathlib.Core.Logic.{_↔_}
 use mathlib.Core.Bool.{Bool, true, not, _&&_, _||_}
 use mathlib.Core.List.{List, [], _∷_, _++_}
-use lib.Dec.{eqb, ltb, leb}
+use lib.Dec.{eqb}
 use Rattle.base.specs.Lists.{_∈_, when, all, any}
+use Rattle.tables.specs.Values.{isLess, isAtMost}
 
 -- "a tree where each node is a pair composed of a name and a value": no node at all, or a node's name, its value, what stands
 -- below it and what stands beside it
@@ -59,8 +60,8 @@ T ⊨ SOME path p φ = any (λ k. T ⊨ φ k) (v T path p)
 T ⊨ EACH path p φ = all (λ k. T ⊨ φ k) (v T path p)
 -- T ⊨ k₁ = k₂  ≡  k₁ and k₂ have the same value
 T ⊨ EQUAL k₁ k₂ = eqb k₁ k₂
-T ⊨ LESS k₁ k₂ = ltb k₁ k₂
-T ⊨ ATMOST k₁ k₂ = leb k₁ k₂
+T ⊨ LESS k₁ k₂ = isLess k₁ k₂
+T ⊨ ATMOST k₁ k₂ = isAtMost k₁ k₂
 
 -- The two quantifier lines in Table 1's words, proved in proofs/Table: how often and in what order v lists a value does not matter.
 pub record AsSet (T : Tree) (path : Path) (p : ℕ) (φ : ℕ → CL) : Type 0 where

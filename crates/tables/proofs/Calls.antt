@@ -12,7 +12,7 @@ use Rattle.base.proofs.Bools.{either}
 use Rattle.tables.specs.declared.Answer.{Answer}
 use Rattle.tables.specs.declared.Answer.the-variants.{Done, Refused}
 use Rattle.tables.specs.Answers.{number, isDone, andThen, fitting, output}
-use Rattle.tables.specs.Files.{startsWith, atLine, atEnd, checkFile, readWords, readAnswer, readOut, writeText, writeAnswer, writeOut}
+use Rattle.tables.specs.Files.{Format, startsWith, atLine, atEnd, checkFile, readWords, readAnswer, readOut, writeText, writeAnswer, writeOut}
 use Rattle.tables.specs.Trips.{upTo, fileIn, tableIn}
 use Rattle.tables.proofs.Answers.{unless-passed, andThen-passed}
 
@@ -24,23 +24,23 @@ fitted checked result room ok h = andThen-passed checked (fitting result room) o
 left : (answer : Answer) (result out : List ℕ) → answer ≡ Done (length result) → upTo answer (output answer result out) ≡ result
 left answer result out e = rw e (take-at result (drop (length result) out) (length result) refl)
 
-module _ (names : List ℕ) (k : ℕ) (checked : Answer) (ws : List ℕ) (ok : isDone checked ≡ true) where
-  pub write-accepted : (room : ℕ) → length (writeText names k ws) ≤ room → writeAnswer names k checked ws room ≡ Done (length (writeText names k ws))
+module _ (names : List ℕ) (f : Format) (checked : Answer) (ws : List ℕ) (ok : isDone checked ≡ true) where
+  pub write-accepted : (room : ℕ) → length (writeText names f ws) ≤ room → writeAnswer names f checked ws room ≡ Done (length (writeText names f ws))
   unfolding writeAnswer
-  write-accepted room h = fitted checked (writeText names k ws) room ok h
+  write-accepted room h = fitted checked (writeText names f ws) room ok h
 
-  pub write-file : (bytes : List ℕ) → length (writeText names k ws) ≤ length bytes → fileIn names k checked ws bytes ≡ writeText names k ws
+  pub write-file : (bytes : List ℕ) → length (writeText names f ws) ≤ length bytes → fileIn names f checked ws bytes ≡ writeText names f ws
   unfolding writeOut
-  write-file bytes h = left (writeAnswer names k checked ws (length bytes)) (writeText names k ws) bytes (write-accepted (length bytes) h)
+  write-file bytes h = left (writeAnswer names f checked ws (length bytes)) (writeText names f ws) bytes (write-accepted (length bytes) h)
 
-module _ (names : List ℕ) (k : ℕ) (file : List ℕ) where
-  pub read-accepted : (room : ℕ) → isDone (checkFile names k file) ≡ true → length (readWords names k file) ≤ room → readAnswer names k file room ≡ Done (length (readWords names k file))
+module _ (names : List ℕ) (f : Format) (file : List ℕ) where
+  pub read-accepted : (room : ℕ) → isDone (checkFile names f file) ≡ true → length (readWords names f file) ≤ room → readAnswer names f file room ≡ Done (length (readWords names f file))
   unfolding readAnswer
-  read-accepted room ok h = fitted (checkFile names k file) (readWords names k file) room ok h
+  read-accepted room ok h = fitted (checkFile names f file) (readWords names f file) room ok h
 
-  pub read-table : (words : List ℕ) → isDone (checkFile names k file) ≡ true → length (readWords names k file) ≤ length words → tableIn names k file words ≡ readWords names k file
+  pub read-table : (words : List ℕ) → isDone (checkFile names f file) ≡ true → length (readWords names f file) ≤ length words → tableIn names f file words ≡ readWords names f file
   unfolding readOut
-  read-table words ok h = left (readAnswer names k file (length words)) (readWords names k file) words (read-accepted (length words) ok h)
+  read-table words ok h = left (readAnswer names f file (length words)) (readWords names f file) words (read-accepted (length words) ok h)
 
 -- ---- what an answer tells
 -- accepted: the check passed, and the answer is the length of what was written, which fits
@@ -88,24 +88,24 @@ short (Done n) result room p h e = either (leb (length result) room)
     done : _≡_ {A = Answer} (Done (length result)) (Refused 17 p) → ⊥
     done w = let z : _≡_ {A = ℕ} 0 1 = cc in omega arith
 
-module _ (names : List ℕ) (k : ℕ) (file : List ℕ) where
+module _ (names : List ℕ) (f : Format) (file : List ℕ) where
   -- 18 and 19 are the only refusals of a file
-  never-17 : number (checkFile names k file) ≡ 17 → ⊥
+  never-17 : number (checkFile names f file) ≡ 17 → ⊥
   unfolding checkFile
   never-17 e = either (startsWith names file)
-      (λ p. either (atLine (atEnd names k file))
+      (λ p. either (atLine (atEnd names f file))
       (λ q. let z : _≡_ {A = ℕ} 0 17 = (rw (p, q) at e) in omega arith)
       (λ q. let z : _≡_ {A = ℕ} 19 17 = (rw (p, q) at e) in omega arith))
       (λ p. let z : _≡_ {A = ℕ} 18 17 = (rw p at e) in omega arith)
 
-  pub read-done : (room n : ℕ) → readAnswer names k file room ≡ Done n → Fits (checkFile names k file) (readWords names k file) room n
+  pub read-done : (room n : ℕ) → readAnswer names f file room ≡ Done n → Fits (checkFile names f file) (readWords names f file) room n
   unfolding readAnswer
-  read-done room n e = fits (checkFile names k file) (readWords names k file) room n e
+  read-done room n e = fits (checkFile names f file) (readWords names f file) room n e
 
-  pub read-refused : (room m p : ℕ) → readAnswer names k file room ≡ Refused m p → (m ≡ 17 → ⊥) → checkFile names k file ≡ Refused m p
+  pub read-refused : (room m p : ℕ) → readAnswer names f file room ≡ Refused m p → (m ≡ 17 → ⊥) → checkFile names f file ≡ Refused m p
   unfolding readAnswer
-  read-refused room m p e h = refused (checkFile names k file) (readWords names k file) room m p e h
+  read-refused room m p e h = refused (checkFile names f file) (readWords names f file) room m p e h
 
-  pub read-short : (room p : ℕ) → readAnswer names k file room ≡ Refused 17 p → Short (checkFile names k file) (readWords names k file) room
+  pub read-short : (room p : ℕ) → readAnswer names f file room ≡ Refused 17 p → Short (checkFile names f file) (readWords names f file) room
   unfolding readAnswer
-  read-short room p e = short (checkFile names k file) (readWords names k file) room p never-17 e
+  read-short room p e = short (checkFile names f file) (readWords names f file) room p never-17 e

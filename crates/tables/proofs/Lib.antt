@@ -1,4 +1,5 @@
 pub mod Words
+pub mod Values
 pub mod Answers
 pub mod Whole
 pub mod Ordered
@@ -20,11 +21,14 @@ pub mod AcceptedRule
 pub mod Calls
 pub mod Digits
 pub mod Fills
+pub mod Stores
 pub mod ReadAnswers
 pub mod ReadBack
 pub mod Scans
 pub mod Steps
 pub mod Trips
+pub mod LineTexts
+pub mod Lines
 pub mod WriteAnswers
 pub mod WriteBack
 pub mod Writes

@@ -8,7 +8,8 @@ use lib.ListN.{length, set, length-append}
 use lib.Seq.{sets, length-sets}
 use Rattle.powers.specs.Powers.{wordDigits, powerAt}
 use Rattle.powers.proofs.Powers.{power-is}
-use Rattle.tables.specs.Files.{numberLimit, digitByte, withDigit, numberText}
+use Rattle.tables.specs.Words.{wordLimit}
+use Rattle.tables.specs.Files.{digitByte, withDigit, numberText}
 use Rattle.tables.proofs.Digits.{text-le, text-pos, wide-from, narrow-below, from-wide, below-narrow, soFar, so-far, text-more}
 use Rattle.tables.proofs.Writes.{sets-append}
 
@@ -19,7 +20,7 @@ pub record Widths (w n : ℕ) : Type 0 where
   pub high : n ≤ wordDigits
   pub wide : n ≤ length (numberText w)
 
-module _ (w : ℕ) (fits : w ≤ numberLimit) where
+module _ (w : ℕ) (fits : w ≤ wordLimit) where
   pub width-begin : Widths w 1
   width-begin = record { low = omega arith; high = omega arith; wide = text-pos w }
 
@@ -61,7 +62,7 @@ pub record Placing (out₀ : List ℕ) (at w : ℕ) (out : List ℕ) (i v p : �
   pub end : p + i + 1 ≡ at + length (numberText w)
   pub done : out ≡ sets out₀ at (soFar before)
 
-module _ (out₀ : List ℕ) (at w : ℕ) (fits : w ≤ numberLimit) where
+module _ (out₀ : List ℕ) (at w : ℕ) (fits : w ≤ wordLimit) where
   pub place-begin : (i : ℕ) → i + 1 ≡ length (numberText w) → Placing out₀ at w out₀ i w at
   place-begin i e =
       record {
@@ -99,7 +100,7 @@ module _ (out₀ : List ℕ) (at w : ℕ) (fits : w ≤ numberLimit) where
       let x : ℕ = withDigit (t .before) d in
       let s : suc (i - 1) ≡ i = omega arith in
       let whole : w ≡ x * 10 ^ i + r = behind i (t .before) v d r w (t .whole) e in
-      let small : x ≤ numberLimit = omega (arith, le-mul-of-pos-right x (one-le-pow i 10 (omega arith))) in
+      let small : x ≤ wordLimit = omega (arith, le-mul-of-pos-right x (one-le-pow i 10 (omega arith))) in
       let text : soFar x ≡ soFar (t .before) ++ (digitByte d ∷ []) =
       so-far x (nonzero x (10 ^ i) r w whole l (t .starts z)) ∙ text-more (t .before) d (omega arith) small in
       record {

@@ -15,7 +15,7 @@ use Rattle.base.specs.Search.{first, some}
 use Rattle.base.proofs.Bools.{either, and-left, and-right, and-both, or-left, or-right}
 use Rattle.base.proofs.Search.{at-first, none-before, some-at}
 use Rattle.tables.specs.Answers.{isDone, unless, inOrder}
-use Rattle.tables.specs.Words.{notIdentifier, notValue, rowWords, rowAt, rowCount}
+use Rattle.tables.specs.Words.{notIdentifier, rowWords, rowAt, rowCount}
 use Rattle.tables.specs.Tables.{root, isParent, isDeeper, isAbove, outOfRange, notAbove, noParent, wrongDepth, rowFault, rowLimit, tableLength, tableChecks, checkTable}
 use Rattle.tables.specs.Devices.{fromDevice}
 use Rattle.tables.specs.declared.Answer.{Answer}
@@ -72,11 +72,8 @@ placed-by t h = record { no-9 = h 9 refl; no-10 = h 10 refl; no-11 = h 11 refl }
 module _ (t : List ℕ) (ok : Placed t) where
   -- ---- ranges
   module _ (i : ℕ) (h : i < rowCount t) where
-    but-value : (notIdentifier (rowAt t i .device) || notIdentifier (rowAt t i .at) || notIdentifier (rowAt t i .name)) ≡ false
-    but-value = or-left _ (notValue (rowAt t i .value)) (ok .no-9 i h)
-
     but-name : (notIdentifier (rowAt t i .device) || notIdentifier (rowAt t i .at)) ≡ false
-    but-name = or-left _ (notIdentifier (rowAt t i .name)) but-value
+    but-name = or-left _ (notIdentifier (rowAt t i .name)) (ok .no-9 i h)
 
     pub device-range : (1 ≤ rowAt t i .device) × (rowAt t i .device ≤ 65535)
     device-range = identifier (rowAt t i .device) (or-left _ (notIdentifier (rowAt t i .at)) but-name)
@@ -85,10 +82,7 @@ module _ (t : List ℕ) (ok : Placed t) where
     at-range = identifier (rowAt t i .at) (or-right (notIdentifier (rowAt t i .device)) _ but-name)
 
     pub name-range : (1 ≤ rowAt t i .name) × (rowAt t i .name ≤ 65535)
-    name-range = identifier (rowAt t i .name) (or-right (notIdentifier (rowAt t i .device) || notIdentifier (rowAt t i .at)) _ but-value)
-
-    pub value-range : rowAt t i .value ≤ 2147483647
-    value-range = ltb-false 2147483647 (rowAt t i .value) (or-right (notIdentifier (rowAt t i .device) || notIdentifier (rowAt t i .at) || notIdentifier (rowAt t i .name)) _ (ok .no-9 i h))
+    name-range = identifier (rowAt t i .name) (or-right (notIdentifier (rowAt t i .device) || notIdentifier (rowAt t i .at)) _ (ok .no-9 i h))
 
   -- ---- order
   -- the device and the at of a row

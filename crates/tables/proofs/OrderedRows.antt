@@ -12,7 +12,7 @@ use borrow.Author.Tests.{eqb-true, eq-eqb, ltb-true, ltb-false, lt-ltb}
 use Rattle.base.specs.Lists.{_∈_, put, select}
 use Rattle.base.proofs.Bools.{either, and-left, and-right, and-both, or-left, or-right, or-cases, or-first, or-second}
 use Rattle.base.proofs.Lists.{select-in, select-out}
-use Rattle.tables.specs.Words.{notIdentifier, notValue, rowAt, rowCount, rowsFrom, rows}
+use Rattle.tables.specs.Words.{notIdentifier, rowAt, rowCount, rowsFrom, rows}
 use Rattle.tables.specs.Tables.{root, isParent, isAbove, outOfRange, notAbove, noParent, wrongDepth, rowFault, tableLength}
 use Rattle.tables.specs.declared.Row.{Row}
 use Rattle.tables.proofs.Ordered.{orderChecks, orderedTable, order, Placed, placed, has-parent, root-depth, child-depth, fits-depth, rises, strictly, parent-at, parent-device}
@@ -92,7 +92,7 @@ at-low r e =
     let d = notIdentifier (r .device) in
     let a = notIdentifier (r .at) in
     let n = notIdentifier (r .name) in
-    ltb-false (r .at) 1 (or-left (ltb (r .at) 1) (ltb 65535 (r .at)) (or-right d a (or-left (d || a) n (or-left (d || a || n) (notValue (r .value)) e))))
+    ltb-false (r .at) 1 (or-left (ltb (r .at) 1) (ltb 65535 (r .at)) (or-right d a (or-left (d || a) n e)))
 
 module _ {T : List Row} (ok : Parented T) where
   -- no row has at 0, so a root has no parent

@@ -12,8 +12,10 @@ use Rattle.base.proofs.Bools.{and-right}
 use Rattle.tables.specs.declared.Answer.{Answer}
 use Rattle.tables.specs.declared.Answer.the-variants.{Done, Refused}
 use Rattle.tables.specs.declared.reading.Scan.{Scan}
-use Rattle.tables.specs.Files.{scanAll, wordsFrom, atStart, startsWith, atLine, checkFile, readAnswer, readWords, readOut}
+use Rattle.tables.specs.Files.{Format, scanAll, wordsFrom, atStart, startsWith, atLine, checkFile, readAnswer, readWords, readOut}
+use Rattle.tables.specs.Scans.{firstNumber, numbersFrom, Fillable}
 use Rattle.tables.proofs.Steps.{count-words}
+use Rattle.tables.proofs.Stores.{fillable-words}
 
 pub starts-le : (names file : List ℕ) → startsWith names file ≡ true → length names ≤ length file
 unfolding startsWith
@@ -28,41 +30,48 @@ tail h file = take (length file - h) (drop h file)
 tail-is : (file : List ℕ) (h : ℕ) → tail h file ≡ drop h file
 tail-is file h = take-all (length file - h) (drop h file) (rw (length-drop h file) (omega arith))
 
-abbrev pub Answered : List ℕ → List ℕ → ℕ → List ℕ → Answer → List ℕ → Type 0
-Answered names file k out r out′ = (r ≡ readAnswer names k file (length out)) × (out′ ≡ readOut names k file out)
+abbrev pub Answered : List ℕ → List ℕ → Format → List ℕ → Answer → List ℕ → Type 0
+Answered names file f out r out′ = (r ≡ readAnswer names f file (length out)) × (out′ ≡ readOut names f file out)
 
-module _ (names file out : List ℕ) (k : ℕ) where
-  refused : (n p : ℕ) → readAnswer names k file (length out) ≡ Refused n p → Answered names file k out (Refused n p) out
+module _ (names file out : List ℕ) (f : Format) where
+  refused : (n p : ℕ) → readAnswer names f file (length out) ≡ Refused n p → Answered names file f out (Refused n p) out
   unfolding readOut
   refused n p e = (sym e, rw e)
 
-  pub refuse-18 : startsWith names file ≡ false → Answered names file k out (Refused 18 1) out
+  pub refuse-18 : startsWith names file ≡ false → Answered names file f out (Refused 18 1) out
   unfolding readAnswer checkFile
   refuse-18 e = refused 18 1 (rw e)
 
-  module _ (st : startsWith names file ≡ true) (s : Scan) (e : s ≡ scanAll k atStart (tail (length names) file)) where
-    scanned : scanAll k atStart (drop (length names) file) ≡ s
-    scanned = sym (e ∙ ap (scanAll k atStart) (tail-is file (length names)))
+  module _ (st : startsWith names file ≡ true) (s : Scan) (e : s ≡ scanAll f atStart (tail (length names) file)) where
+    scanned : scanAll f atStart (drop (length names) file) ≡ s
+    scanned = sym (e ∙ ap (scanAll f atStart) (tail-is file (length names)))
 
-    counted : length (readWords names k file) ≡ s .count
+    counted : length (readWords names f file) ≡ s .count
     unfolding readWords
-    counted = omega (arith, ap (λ (z : Scan). z .count) scanned, count-words k atStart (drop (length names) file))
+    counted = omega (arith, ap (λ (z : Scan). z .count) scanned, count-words f atStart (drop (length names) file))
 
-    pub refuse-19 : atLine s ≡ false → Answered names file k out (Refused 19 (s .line)) out
+    pub refuse-19 : atLine s ≡ false → Answered names file f out (Refused 19 (s .line)) out
     unfolding readAnswer checkFile
     refuse-19 q = refused 19 (s .line) (rw (st, scanned, q))
 
-    pub refuse-17 : atLine s ≡ true → length out < s .count → Answered names file k out (Refused 17 0) out
+    pub refuse-17 : atLine s ≡ true → length out < s .count → Answered names file f out (Refused 17 0) out
     unfolding readAnswer checkFile
     refuse-17 q l = refused 17 0 (rw (st, scanned, q, counted, lt-leb _ _ l))
 
-    pub room : s .count ≤ length out → length (wordsFrom k atStart (tail (length names) file)) ≤ length out
-    room l = omega (arith, ap (λ (z : Scan). z .count) e, count-words k atStart (tail (length names) file))
+    pub fillable : atLine s ≡ true → 0 < f .columns → s .count ≤ length out → Fillable (tail (length names) file) out
+    fillable q pos l = record {
+      format = f;
+      some-columns = pos;
+      passes = rw e at q;
+      room = omega (arith, ap (λ (z : Scan). z .count) e, count-words f atStart (tail (length names) file));
+    }
 
-    pub accept : (out′ : List ℕ) → atLine s ≡ true → s .count ≤ length out
-        → out′ ≡ wordsFrom k atStart (tail (length names) file) ++ drop (length (wordsFrom k atStart (tail (length names) file))) out
-        → Answered names file k out (Done (s .count)) out′
-    unfolding readAnswer readOut readWords checkFile
-    accept out′ q l w =
-        let a : readAnswer names k file (length out) ≡ Done (s .count) = rw (st, scanned, q, counted, le-leb _ _ l) in
-        (sym a, w ∙ rw (tail-is file (length names), a))
+    pub accept : (out′ : List ℕ) → atLine s ≡ true → 0 < f .columns → s .count ≤ length out
+        → out′ ≡ numbersFrom firstNumber (tail (length names) file) ++ drop (length (numbersFrom firstNumber (tail (length names) file))) out
+        → Answered names file f out (Done (s .count)) out′
+    unfolding readAnswer readOut readWords checkFile fillable
+    accept out′ q pos l w =
+        let a : readAnswer names f file (length out) ≡ Done (s .count) = rw (st, scanned, q, counted, le-leb _ _ l) in
+        let same : numbersFrom firstNumber (tail (length names) file) ≡ wordsFrom f atStart (tail (length names) file)
+        = fillable-words (tail (length names) file) out (fillable q pos l) in
+        (sym a, w ∙ rw (same, tail-is file (length names), a))

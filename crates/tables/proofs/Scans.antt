@@ -10,34 +10,34 @@ use lib.Seq.{drop-cons}
 use lib.Dec.{eqb}
 use borrow.Author.Tests.{eq-eqb, ne-eqb}
 use Rattle.tables.specs.declared.reading.Scan.{Scan}
-use Rattle.tables.specs.Files.{stepOf, scanAll, atStart, startsWith}
+use Rattle.tables.specs.Files.{Format, stepOf, scanAll, atStart, startsWith}
 use Rattle.tables.specs.Scans.{Sound}
 use Rattle.tables.proofs.Steps.{step-counted, step-sound}
 
 -- i bytes have been read, and the answer is that of the rest
-pub record Scanning (k : ℕ) (bs : List ℕ) (s : Scan) (i : ℕ) : Type 0 where
+pub record Scanning (f : Format) (bs : List ℕ) (s : Scan) (i : ℕ) : Type 0 where
   pub within : i ≤ length bs
-  pub sound : Sound k s
+  pub sound : Sound f s
   pub line-le : s .line ≤ i + 2
   pub count-le : s .count ≤ i
-  pub rest : scanAll k atStart bs ≡ scanAll k s (drop i bs)
+  pub rest : scanAll f atStart bs ≡ scanAll f s (drop i bs)
 
-module _ (k : ℕ) (bs : List ℕ) where
-  pub scan-begin : (s : Scan) → s ≡ atStart → 0 < k → Scanning k bs s 0
-  scan-begin s e h = rw e (record { within = omega arith; sound = record { column-lt = h; value-le = omega arith }; line-le = omega arith; count-le = omega arith; rest = refl })
+module _ (f : Format) (bs : List ℕ) where
+  pub scan-begin : (s : Scan) → s ≡ atStart → 0 < f .columns → Scanning f bs s 0
+  scan-begin s e h = rw e (record { within = omega arith; sound = record { column-lt = h; value-le = omega arith; none-yet = λ l. refl }; line-le = omega arith; count-le = omega arith; rest = refl })
 
-  pub scan-more : (s r : Scan) (i : ℕ) → Scanning k bs s i → i < length bs → r ≡ stepOf k s (getD bs i 0) → Scanning k bs r (i + 1)
+  pub scan-more : (s r : Scan) (i : ℕ) → Scanning f bs s i → i < length bs → r ≡ stepOf f s (getD bs i 0) → Scanning f bs r (i + 1)
   unfolding scanAll
   scan-more s r i t h e =
       rw e (record {
         within = omega arith;
-        sound = step-sound k s (getD bs i 0) (t .sound);
-        line-le = omega (arith, t .line-le, step-counted k s (getD bs i 0) .line-le);
-        count-le = omega (arith, t .count-le, step-counted k s (getD bs i 0) .le);
+        sound = step-sound f s (getD bs i 0) (t .sound);
+        line-le = omega (arith, t .line-le, step-counted f s (getD bs i 0) .line-le);
+        count-le = omega (arith, t .count-le, step-counted f s (getD bs i 0) .le);
         rest = t .rest ∙ rw (add-one, drop-cons bs i 0 h);
       })
 
-  pub scan-end : (s : Scan) (i : ℕ) → Scanning k bs s i → length bs ≤ i → s ≡ scanAll k atStart bs
+  pub scan-end : (s : Scan) (i : ℕ) → Scanning f bs s i → length bs ≤ i → s ≡ scanAll f atStart bs
   unfolding scanAll
   scan-end s i t h = sym (t .rest ∙ rw (drop-of-length-le bs h))
 

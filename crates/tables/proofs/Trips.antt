@@ -1,4 +1,4 @@
--- The round trips of specs/Trips.antt, for any line of names, any number of columns and any check that wants whole lines. Assumes nothing.
+-- The round trips of specs/Trips.antt, for any line of names, any format and any check that wants whole lines. Assumes nothing.
 use Prim.Native.Nat.{ℕ, _≤_, _<_}
 use mathlib.Core.Path.{_≡_, ap, _∙_}
 use mathlib.Core.Bool.{true}
@@ -11,7 +11,7 @@ use Rattle.tables.specs.Answers.{isDone, inOrder}
 use Rattle.tables.specs.Words.{whole, entryWords, entryCount, rowWords, rowCount}
 use Rattle.tables.specs.Rules.{checkRule, entryFault, ruleLength, ruleChecks}
 use Rattle.tables.specs.Tables.{checkTable, rowFault, tableLength, tableChecks}
-use Rattle.tables.specs.Files.{ruleNames, poolNames, writeText, readWords, checkFile}
+use Rattle.tables.specs.Files.{Format, ruleNames, ruleFormat, poolNames, poolFormat, writeText, readWords, checkFile}
 use Rattle.tables.specs.Trips.{fileIn, tableIn, TablesReturn, FilesReturn, RoundTrips}
 use Rattle.tables.proofs.Answers.{unless-ok, andThen-first, andThen-next}
 use Rattle.tables.proofs.Whole.{rule-whole, table-whole}
@@ -19,30 +19,30 @@ use Rattle.tables.proofs.Calls.{read-accepted, read-table, write-accept
 use Rattle.tables.proofs.WriteBack.{write-read}
 use Rattle.tables.proofs.ReadBack.{read-write, write-passes}
 
-module _ (names : List ℕ) (k : ℕ) (check : List ℕ → Answer) where
-  pub tables-return : 0 < k → ((ws : List ℕ) → isDone (check ws) ≡ true → whole k ws ≡ true) → TablesReturn names k check
+module _ (names : List ℕ) (f : Format) (check : List ℕ → Answer) where
+  pub tables-return : 0 < f .columns → ((ws : List ℕ) → isDone (check ws) ≡ true → whole (f .columns) ws ≡ true) → TablesReturn names f check
   tables-return pos lines ws bytes words small ok hb hw =
-      let file : fileIn names k (check ws) ws bytes ≡ writeText names k ws = write-file names k (check ws) ws ok bytes hb in
-      let passed : isDone (checkFile names k (writeText names k ws)) ≡ true = write-passes names k ws pos small (lines ws ok) in
-      let same : readWords names k (writeText names k ws) ≡ ws = read-write names k ws pos small in
-      let fits : length (readWords names k (writeText names k ws)) ≤ length words = rw same hw in
+      let file : fileIn names f (check ws) ws bytes ≡ writeText names f ws = write-file names f (check ws) ws ok bytes hb in
+      let passed : isDone (checkFile names f (writeText names f ws)) ≡ true = write-passes names f ws pos small (lines ws ok) in
+      let same : readWords names f (writeText names f ws) ≡ ws = read-write names f ws pos small in
+      let fits : length (readWords names f (writeText names f ws)) ≤ length words = rw same hw in
       record {
-        written = write-accepted names k (check ws) ws ok (length bytes) hb;
-        read = rw file (read-accepted names k (writeText names k ws) (length words) passed fits ∙ ap (λ (l : List ℕ). Done (length l)) same);
-        same = rw file (read-table names k (writeText names k ws) words passed fits ∙ same);
+        written = write-accepted names f (check ws) ws ok (length bytes) hb;
+        read = rw file (read-accepted names f (writeText names f ws) (length words) passed fits ∙ ap (λ (l : List ℕ). Done (length l)) same);
+        same = rw file (read-table names f (writeText names f ws) words passed fits ∙ same);
       }
 
-  pub files-return : FilesReturn names k check
+  pub files-return : FilesReturn names f check
   files-return file words bytes ok hw hb =
-      let passed : isDone (checkFile names k file) ≡ true = andThen-first (checkFile names k file) (check (readWords names k file)) ok in
-      let good : isDone (check (readWords names k file)) ≡ true = andThen-next (checkFile names k file) (check (readWords names k file)) ok in
-      let table : tableIn names k file words ≡ readWords names k file = read-table names k file words passed hw in
-      let same : writeText names k (readWords names k file) ≡ file = write-read names k file passed in
-      let fits : length (writeText names k (readWords names k file)) ≤ length bytes = rw same hb in
+      let passed : isDone (checkFile names f file) ≡ true = andThen-first (checkFile names f file) (check (readWords names f file)) ok in
+      let good : isDone (check (readWords names f file)) ≡ true = andThen-next (checkFile names f file) (check (readWords names f file)) ok in
+      let table : tableIn names f file words ≡ readWords names f file = read-table names f file words passed hw in
+      let same : writeText names f (readWords names f file) ≡ file = write-read names f file passed in
+      let fits : length (writeText names f (readWords names f file)) ≤ length bytes = rw same hb in
       record {
-        read = read-accepted names k file (length words) passed hw;
-        written = rw table (write-accepted names k (check (readWords names k file)) (readWords names k file) good (length bytes) fits ∙ ap (λ (l : List ℕ). Done (length l)) same);
-        same = rw table (write-file names k (check (readWords names k file)) (readWords names k file) good bytes fits ∙ same);
+        read = read-accepted names f file (length words) passed hw;
+        written = rw table (write-accepted names f (check (readWords names f file)) (readWords names f file) good (length bytes) fits ∙ ap (λ (l : List ℕ). Done (length l)) same);
+        same = rw table (write-file names f (check (readWords names f file)) (readWords names f file) good bytes fits ∙ same);
       }
 
 rule-lines : (r : List ℕ) → isDone (checkRule r) ≡ true → whole entryWords r ≡ true
@@ -55,8 +55,8 @@ table-lines t ok = table-whole t (unless-ok (tableLength t) 8 (inOrder (rowFault
 
 pub round-trips : RoundTrips
 round-trips = record {
-  rules = tables-return ruleNames entryWords checkRule (omega arith) rule-lines;
-  rule-files = files-return ruleNames entryWords checkRule;
-  pools = tables-return poolNames rowWords checkTable (omega arith) table-lines;
-  pool-files = files-return poolNames rowWords checkTable;
+  rules = tables-return ruleNames ruleFormat checkRule (omega arith) rule-lines;
+  rule-files = files-return ruleNames ruleFormat checkRule;
+  pools = tables-return poolNames poolFormat checkTable (omega arith) table-lines;
+  pool-files = files-return poolNames poolFormat checkTable;
 }

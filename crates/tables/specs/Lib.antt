@@ -1,5 +1,6 @@
 pub mod Answers
 pub mod Words
+pub mod Values
 pub mod Rules
 pub mod Tables
 pub mod Links
@@ -9,3 +10,4 @@ pub mod Spans
 pub mod Files
 pub mod Scans
 pub mod Trips
+pub mod Lines

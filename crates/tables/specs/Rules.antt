@@ -5,7 +5,7 @@ use mathlib.Core.List.{List, [], _∷_}
 use lib.Dec.{ltb, leb, eqb}
 use Rattle.base.specs.Search.{sumBelow}
 use Rattle.tables.specs.Answers.{unless, inOrder, isDone}
-use Rattle.tables.specs.Words.{whole, notIdentifier, notValue, entryWords, entryAt, entryCount}
+use Rattle.tables.specs.Words.{whole, notIdentifier, entryWords, entryAt, entryCount}
 use Rattle.tables.specs.declared.Entry.{Entry}
 use Rattle.tables.specs.declared.Answer.{Answer}
 
@@ -23,8 +23,11 @@ isConnective e = leb 2 (e .kind) && leb (e .kind) 4
 abbrev pub isQuantifier : Entry → Bool
 isQuantifier e = leb 5 (e .kind) && leb (e .kind) 6
 
+abbrev pub comparisonKind : ℕ → Bool
+comparisonKind k = leb 7 k && leb k 9
+
 abbrev pub isComparison : Entry → Bool
-isComparison e = leb 7 (e .kind) && leb (e .kind) 9
+isComparison e = comparisonKind (e .kind)
 
 -- ---- child places: a of all but comparisons, b of connectives
 abbrev pub hasChild : Entry → Bool
@@ -61,14 +64,13 @@ around r j = aroundFrom r j j
 abbrev pub unknownKind : Entry → Bool
 unknownKind e = ltb (e .kind) 1 || ltb 9 (e .kind)
 
--- 3: a word due 0 isn't; b of a comparison above 1; name or constant out of range
+-- 3: a word due 0 isn't; b of a comparison above 1; name out of range
 abbrev pub badWord : Entry → Bool
 badWord e =
     (isNot e && not (eqb (e .b) 0))
     || ((isNot e || isConnective e) && not (eqb (e .c) 0))
     || (isComparison e && ltb 1 (e .b))
     || (isQuantifier e && notIdentifier (e .c))
-    || (isComparison e && (eqb (e .b) 1 && notValue (e .c)))
 
 -- 4: child not later, or beyond the end
 abbrev pub badPlace : ℕ → ℕ → ℕ → Bool

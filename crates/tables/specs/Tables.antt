@@ -5,7 +5,7 @@ use mathlib.Core.List.{List, [], _∷_}
 use lib.Dec.{ltb, leb, eqb}
 use Rattle.base.specs.Search.{some}
 use Rattle.tables.specs.Answers.{unless, inOrder, isDone}
-use Rattle.tables.specs.Words.{whole, notIdentifier, notValue, rowWords, rowAt, rowCount}
+use Rattle.tables.specs.Words.{whole, notIdentifier, rowWords, rowAt, rowCount}
 use Rattle.tables.specs.declared.Row.{Row}
 use Rattle.tables.specs.declared.Answer.{Answer}
 
@@ -34,9 +34,9 @@ abbrev pub isTwin : Row → Row → Bool
 isTwin r b = eqb (b .up) (r .up) && (root r || eqb (b .device) (r .device)) && eqb (b .name) (r .name) && eqb (b .value) (r .value)
 
 -- ---- the faults of row i
--- 9: device, at, name or value out of range
+-- 9: device, at or name out of range
 abbrev pub outOfRange : Row → Bool
-outOfRange r = notIdentifier (r .device) || notIdentifier (r .at) || notIdentifier (r .name) || notValue (r .value)
+outOfRange r = notIdentifier (r .device) || notIdentifier (r .at) || notIdentifier (r .name)
 
 -- 10: not above the row before
 abbrev pub notAbove : List ℕ → ℕ → Bool

@@ -1,12 +1,19 @@
 -- 01, Tables: rules and tables in runs of words. Assumes nothing.
-use Prim.Native.Nat.{ℕ, zero, suc, _+_, _*_, _/_, _%_}
-use mathlib.Core.Bool.{Bool}
+use Prim.Native.Nat.{ℕ, zero, suc, _+_, _*_, _/_, _%_, _≤_}
+use mathlib.Core.Bool.{Bool, _||_}
 use mathlib.Core.List.{List, [], _∷_}
 use lib.ListN.{length, getD}
 use lib.Dec.{eqb, ltb}
-use mathlib.Core.Bool.{_||_}
 use Rattle.tables.specs.declared.Row.{Row}
 use Rattle.tables.specs.declared.Entry.{Entry}
+
+-- all words are 32-bit unsigned: the largest one
+abbrev pub wordLimit : ℕ
+wordLimit = 4294967295
+
+-- each word is one, as in every lent run of words
+abbrev pub AllWords : List ℕ → Type 0
+AllWords ws = (i : ℕ) → getD ws i 0 ≤ wordLimit
 
 -- word c of line i in a run of k words a line
 abbrev pub word : ℕ → List ℕ → ℕ → ℕ → ℕ
@@ -19,10 +26,6 @@ whole k ws = eqb (length ws % k) 0
 -- device, at and name are 1 to 65,535
 abbrev pub notIdentifier : ℕ → Bool
 notIdentifier x = ltb x 1 || ltb 65535 x
-
--- values and constants are 0 to 2,147,483,647
-abbrev pub notValue : ℕ → Bool
-notValue x = ltb 2147483647 x
 
 -- ---- tables: a row is six words, `device at up deep name value`
 abbrev pub rowWords : ℕ

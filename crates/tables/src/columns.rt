@@ -1,7 +1,16 @@
 // The columns of a file's line of values.
+use super::entries::B;
+use super::entries::KIND;
 ghost use mathlib.Core.Path.{_≡_};
 ghost use Prim.Native.Nat.{_<_};
-ghost use Rattle.tables.specs.Files.{byteAfter, nextColumn};
+ghost use Rattle.tables.specs.Files.{byteAfter, nextColumn, signsOf, format, toldNext, maySign};
+
+// Which numbers of a file may have a minus sign.
+pub(crate) enum Signs {
+    Nowhere,
+    Values,
+    Constants,
+}
 
 // The byte after the number in column c of k.
 pub(crate) fn byte_after(k: usize, c: usize) -> u8
@@ -23,4 +32,42 @@ pub(crate) fn next_column(k: usize, c: usize) -> usize
         return 0;
     }
     c + 1
+}
+
+// Whether the number in column c may have a sign.
+pub(crate) fn may_sign(k: usize, signs: Signs, c: usize, told: bool) -> bool
+    requires { ⌜ c < k ⌝ }
+    ensures { λ r. ⌜ r ≡ maySign (format k signs) c told ⌝ }
+{
+    (c + 1 == k) & told
+}
+
+// What the number w in column c tells of the last one.
+fn tells(signs: Signs, c: usize, w: u32, told: bool) -> bool
+    ensures { λ r. ⌜ r ≡ signsOf signs c w told ⌝ }
+{
+    match signs {
+        Signs::Nowhere => false,
+        Signs::Values => true,
+        Signs::Constants => {
+            if c == KIND {
+                return (7 <= w) & (w <= 9);
+            }
+            if c == B {
+                return told & (w == 1);
+            }
+            told
+        }
+    }
+}
+
+// What the next number is told: each line starts anew.
+pub(crate) fn told_next(k: usize, signs: Signs, c: usize, w: u32, told: bool) -> bool
+    requires { ⌜ c < k ⌝ }
+    ensures { λ r. ⌜ r ≡ toldNext (format k signs) c w told ⌝ }
+{
+    if c + 1 == k {
+        return false;
+    }
+    tells(signs, c, w, told)
 }

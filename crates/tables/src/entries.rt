@@ -43,7 +43,6 @@ pub(crate) fn bad_word(e: Entry) -> bool
         | (((e.kind == 1) | ((2 <= e.kind) & (e.kind <= 4))) & !(e.c == 0))
         | (((7 <= e.kind) & (e.kind <= 9)) & (1 < e.b))
         | (((5 <= e.kind) & (e.kind <= 6)) & ((e.c < 1) | (65535 < e.c)))
-        | (((7 <= e.kind) & (e.kind <= 9)) & ((e.b == 1) & (2147483647 < e.c)))
 }
 
 pub(crate) fn bad_child(n: usize, i: usize, e: Entry) -> bool

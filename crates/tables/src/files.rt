@@ -1,5 +1,6 @@
 // Rule and pool files.
 use super::Answer;
+use super::columns::Signs;
 use super::entries::ENTRY_WORDS;
 use super::reading::read_file;
 use super::rows::ROW_WORDS;
@@ -25,7 +26,7 @@ pub fn read_rule(file: &[u8], out: &mut [u32]) -> Answer
     ensures answer { λ r. ⌜ r ≡ readRule (now (file .entry)) (length (now (out .entry))) ⌝ }
     ensures words { λ r. ⌜ now (out .exit) ≡ readRuleOut (now (file .entry)) (now (out .entry)) ⌝ }
 {
-    read_file(&RULE_NAMES, ENTRY_WORDS, file, out)
+    read_file(&RULE_NAMES, ENTRY_WORDS, Signs::Constants, file, out)
 }
 
 // Reads a pool file: its number of words.
@@ -33,7 +34,7 @@ pub fn read_pool(file: &[u8], out: &mut [u32]) -> Answer
     ensures answer { λ r. ⌜ r ≡ readPool (now (file .entry)) (length (now (out .entry))) ⌝ }
     ensures words { λ r. ⌜ now (out .exit) ≡ readPoolOut (now (file .entry)) (now (out .entry)) ⌝ }
 {
-    read_file(&POOL_NAMES, ROW_WORDS, file, out)
+    read_file(&POOL_NAMES, ROW_WORDS, Signs::Values, file, out)
 }
 
 // Writes a rule's file: its number of bytes.
@@ -42,7 +43,14 @@ pub fn write_rule(rule: &[u32], out: &mut [u8]) -> Answer
     ensures bytes { λ r. ⌜ now (out .exit) ≡ writeRuleOut (now (rule .entry)) (now (out .entry)) ⌝ }
 {
     let checked = check_rule(rule);
-    write_file(&RULE_NAMES, ENTRY_WORDS, checked, rule, out)
+    write_file(
+        &RULE_NAMES,
+        ENTRY_WORDS,
+        Signs::Constants,
+        checked,
+        rule,
+        out,
+    )
 }
 
 // Writes a pool's file: its number of bytes.
@@ -51,7 +59,7 @@ pub fn write_pool(table: &[u32], out: &mut [u8]) -> Answer
     ensures bytes { λ r. ⌜ now (out .exit) ≡ writePoolOut (now (table .entry)) (now (out .entry)) ⌝ }
 {
     let checked = check_table(table);
-    write_file(&POOL_NAMES, ROW_WORDS, checked, table, out)
+    write_file(&POOL_NAMES, ROW_WORDS, Signs::Values, checked, table, out)
 }
 
 // Writes the program's counts, five to a line: the number of bytes.
@@ -59,7 +67,7 @@ pub fn write_counts(words: &[u32], out: &mut [u8]) -> Answer
     ensures answer { λ r. ⌜ r ≡ writeCounts (now (words .entry)) (length (now (out .entry))) ⌝ }
     ensures bytes { λ r. ⌜ now (out .exit) ≡ writeCountsOut (now (words .entry)) (now (out .entry)) ⌝ }
 {
-    write_file(&COUNT_NAMES, 5, Answer::Done(0), words, out)
+    write_file(&COUNT_NAMES, 5, Signs::Nowhere, Answer::Done(0), words, out)
 }
 
 // Writes the program's refusal, two words to a line: the number of bytes.
@@ -67,5 +75,12 @@ pub fn write_refusal(words: &[u32], out: &mut [u8]) -> Answer
     ensures answer { λ r. ⌜ r ≡ writeRefusal (now (words .entry)) (length (now (out .entry))) ⌝ }
     ensures bytes { λ r. ⌜ now (out .exit) ≡ writeRefusalOut (now (words .entry)) (now (out .entry)) ⌝ }
 {
-    write_file(&REFUSAL_NAMES, 2, Answer::Done(0), words, out)
+    write_file(
+        &REFUSAL_NAMES,
+        2,
+        Signs::Nowhere,
+        Answer::Done(0),
+        words,
+        out,
+    )
 }

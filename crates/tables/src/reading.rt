@@ -1,20 +1,33 @@
-// Reading a file: any line of names, any number of columns.
+// Reading a file: any line of names, any number of columns, any signs.
 use super::Answer;
+use super::columns::Signs;
 use super::columns::byte_after;
+use super::columns::may_sign;
+use super::columns::told_next;
 ghost use mathlib.Core.Path.{_≡_};
 ghost use Prim.Native.Nat.{_+_, _≤_, _<_, _^_};
 ghost use mathlib.Core.List.{_++_};
 ghost use lib.ListN.{length, drop};
-ghost use Rattle.tables.specs.Files.{numberLimit, digitOf, inNumber, atFault, pastNumber, digitStep, otherStep, stepOf, atStart, scanAll, wordsFrom, startsWith, readAnswer, readOut};
-ghost use Rattle.tables.specs.Scans.{Sound, putOf};
+ghost use Rattle.tables.specs.Words.{wordLimit};
+ghost use Rattle.tables.specs.Files.{format, digitOf, isWithin, wordOf, afterMinus, inNumber, atFault, pastNumber, digitStep, mayEnd, otherStep, stepOf, atStart, scanAll, startsWith, readAnswer, readOut};
+ghost use Rattle.tables.specs.Scans.{Sound, IsWord, firstNumber, numberAfter, numbersFrom, putOf, Fillable};
 
-// Where reading stands. phase: 0 before a number, 1 in a number, 2 at fault.
+// Where reading stands. phase: 0 before a number, 1 after its minus sign, 2 in its digits, 3 at fault.
 pub struct Scan {
     pub phase: u8,
+    pub minus: bool,
     pub value: u64,
     pub column: usize,
+    pub told: bool,
     pub line: usize,
     pub count: usize,
+}
+
+// A number whose words are stored: its sign, its value so far, and the place of its word.
+pub struct Number {
+    pub minus: bool,
+    pub value: u64,
+    pub place: usize,
 }
 
 // The digit of a byte, 10 for a byte that is none.
@@ -29,13 +42,53 @@ fn digit(b: u8) -> u64
     10
 }
 
+// The word of a number.
+fn word_of(minus: bool, v: u64) -> u32
+    requires { ⌜ IsWord minus v ⌝ }
+    ensures { λ r. ⌜ r ≡ wordOf minus v ⌝ }
+{
+    if minus {
+        return (4294967296 - v) as u32;
+    }
+    v as u32
+}
+
+// Whether a number is within its limits.
+fn is_within(signed: bool, minus: bool, v: u64) -> bool
+    ensures { λ r. ⌜ r ≡ isWithin signed minus v ⌝ }
+{
+    if !signed {
+        return !minus;
+    }
+    if minus {
+        return (0 < v) & (v <= 2147483648);
+    }
+    v <= 2147483647
+}
+
+fn after_minus(s: Scan) -> Scan
+    ensures { λ r. ⌜ r ≡ afterMinus s ⌝ }
+{
+    Scan {
+        phase: 1,
+        minus: true,
+        value: s.value,
+        column: s.column,
+        told: s.told,
+        line: s.line,
+        count: s.count,
+    }
+}
+
 fn in_number(s: Scan, v: u64) -> Scan
     ensures { λ r. ⌜ r ≡ inNumber s v ⌝ }
 {
     Scan {
-        phase: 1,
+        phase: 2,
+        minus: s.minus,
         value: v,
         column: s.column,
+        told: s.told,
         line: s.line,
         count: s.count,
     }
@@ -45,32 +98,39 @@ fn at_fault(s: Scan) -> Scan
     ensures { λ r. ⌜ r ≡ atFault s ⌝ }
 {
     Scan {
-        phase: 2,
+        phase: 3,
+        minus: s.minus,
         value: s.value,
         column: s.column,
+        told: s.told,
         line: s.line,
         count: s.count,
     }
 }
 
 // Past a number, before the next one.
-fn past_number(k: usize, s: Scan) -> Scan
+fn past_number(k: usize, signs: Signs, s: Scan) -> Scan
     requires { ⌜ (s .column < k) × (s .line + 1 < 2 ^ 64) × (s .count + 1 < 2 ^ 64) ⌝ }
-    ensures { λ r. ⌜ r ≡ pastNumber k s ⌝ }
+    requires { ⌜ IsWord (s .minus) (s .value) ⌝ }
+    ensures { λ r. ⌜ r ≡ pastNumber (format k signs) s ⌝ }
 {
     if s.column + 1 == k {
         return Scan {
             phase: 0,
+            minus: false,
             value: 0,
             column: 0,
+            told: false,
             line: s.line + 1,
             count: s.count + 1,
         };
     }
     Scan {
         phase: 0,
+        minus: false,
         value: 0,
         column: s.column + 1,
+        told: told_next(k, signs, s.column, word_of(s.minus, s.value), s.told),
         line: s.line,
         count: s.count + 1,
     }
@@ -78,43 +138,56 @@ fn past_number(k: usize, s: Scan) -> Scan
 
 // The state after a digit.
 fn digit_step(s: Scan, d: u64) -> Scan
-    requires { ⌜ (s .value ≤ numberLimit) × (d < 10) ⌝ }
+    requires { ⌜ (s .value ≤ wordLimit) × (d < 10) ⌝ }
     ensures { λ r. ⌜ r ≡ digitStep s d ⌝ }
 {
-    if s.phase == 0 {
+    if s.phase < 2 {
         return in_number(s, d);
     }
     let n = 10 * s.value + d;
-    let grows = (s.phase == 1) & ((0 < s.value) & (n <= 4294967295));
+    let grows = (s.phase == 2) & ((0 < s.value) & (n <= 4294967295));
     if grows {
         return in_number(s, n);
     }
     at_fault(s)
 }
 
-// The state after another byte.
-fn other_step(k: usize, s: Scan, b: u8) -> Scan
-    requires { ⌜ (s .column < k) × (s .line + 1 < 2 ^ 64) × (s .count + 1 < 2 ^ 64) ⌝ }
-    ensures { λ r. ⌜ r ≡ otherStep k s b ⌝ }
+// Whether the byte b ends the number.
+fn may_end(k: usize, signs: Signs, s: Scan, b: u8) -> bool
+    requires { ⌜ s .column < k ⌝ }
+    ensures { λ r. ⌜ r ≡ mayEnd (format k signs) s b ⌝ }
 {
-    let ends = (s.phase == 1) & (b == byte_after(k, s.column));
-    if ends {
-        return past_number(k, s);
+    let signed = may_sign(k, signs, s.column, s.told);
+    (s.phase == 2) & (b == byte_after(k, s.column)) & is_within(signed, s.minus, s.value)
+}
+
+// The state after another byte.
+fn other_step(k: usize, signs: Signs, s: Scan, b: u8) -> Scan
+    requires { ⌜ Sound (format k signs) s ⌝ }
+    requires { ⌜ (s .line + 1 < 2 ^ 64) × (s .count + 1 < 2 ^ 64) ⌝ }
+    ensures { λ r. ⌜ r ≡ otherStep (format k signs) s b ⌝ }
+{
+    if may_end(k, signs, s, b) {
+        return past_number(k, signs, s);
+    }
+    let signs_it = (s.phase == 0) & (b == b'-');
+    if signs_it {
+        return after_minus(s);
     }
     at_fault(s)
 }
 
 // The state after a byte.
-fn step(k: usize, s: Scan, b: u8) -> Scan
-    requires { ⌜ Sound k s ⌝ }
+fn step(k: usize, signs: Signs, s: Scan, b: u8) -> Scan
+    requires { ⌜ Sound (format k signs) s ⌝ }
     requires { ⌜ (s .line + 1 < 2 ^ 64) × (s .count + 1 < 2 ^ 64) ⌝ }
-    ensures { λ r. ⌜ r ≡ stepOf k s b ⌝ }
+    ensures { λ r. ⌜ r ≡ stepOf (format k signs) s b ⌝ }
 {
     let d = digit(b);
     if d < 10 {
         return digit_step(s, d);
     }
-    other_step(k, s, b)
+    other_step(k, signs, s, b)
 }
 
 // The first line of values is line 2.
@@ -123,22 +196,24 @@ fn at_start() -> Scan
 {
     Scan {
         phase: 0,
+        minus: false,
         value: 0,
         column: 0,
+        told: false,
         line: 2,
         count: 0,
     }
 }
 
 // The state after all the bytes.
-fn scan_all(k: usize, bytes: &[u8]) -> Scan
+fn scan_all(k: usize, signs: Signs, bytes: &[u8]) -> Scan
     requires { ⌜ 0 < k ⌝ }
-    ensures { λ r. ⌜ r ≡ scanAll k atStart (now (bytes .entry)) ⌝ }
+    ensures { λ r. ⌜ r ≡ scanAll (format k signs) atStart (now (bytes .entry)) ⌝ }
 {
     let mut s = at_start();
     let mut i = 0;
     while i < bytes.len() {
-        s = step(k, s, bytes[i]);
+        s = step(k, signs, s, bytes[i]);
         i += 1;
     }
     s
@@ -161,39 +236,76 @@ fn starts_with(names: &[u8], file: &[u8]) -> bool
     true
 }
 
-// Stores the number that the step from s to r ended, if it ended one.
-fn put(out: &mut [u32], s: Scan, r: Scan)
-    requires { ⌜ (s .count < r .count → s .count < length (now out)) ⌝ }
-    requires { ⌜ s .value ≤ numberLimit ⌝ }
-    ensures { λ _. ⌜ now (out .exit) ≡ putOf (now (out .entry)) s r ⌝ }
+// The number after a byte of lines that pass.
+fn number_after(n: Number, b: u8) -> Number
+    requires { ⌜ (n .value ≤ wordLimit) × (n .place + 1 < 2 ^ 64) ⌝ }
+    ensures { λ r. ⌜ r ≡ numberAfter n b ⌝ }
 {
-    let at = s.count;
-    if at < r.count {
-        out[at] = s.value as u32;
+    let d = digit(b);
+    if d < 10 {
+        return Number {
+            minus: n.minus,
+            value: 10 * n.value + d,
+            place: n.place,
+        };
+    }
+    if b == b'-' {
+        return Number {
+            minus: true,
+            value: n.value,
+            place: n.place,
+        };
+    }
+    Number {
+        minus: false,
+        value: 0,
+        place: n.place + 1,
     }
 }
 
-// Stores the words of the lines of values.
-fn fill(k: usize, bytes: &[u8], out: &mut [u32])
-    requires { ⌜ 0 < k ⌝ }
-    requires { ⌜ length (wordsFrom k atStart (now bytes)) ≤ length (now out) ⌝ }
-    ensures { λ _. ⌜ now (out .exit) ≡ wordsFrom k atStart (now (bytes .entry)) ++ drop (length (wordsFrom k atStart (now (bytes .entry)))) (now (out .entry)) ⌝ }
+// Stores the number that the step from n to r ended, if it ended one.
+fn put(out: &mut [u32], n: Number, r: Number)
+    requires { ⌜ (n .place < r .place → n .place < length (now out)) ⌝ }
+    requires { ⌜ (n .place < r .place → IsWord (n .minus) (n .value)) ⌝ }
+    ensures { λ _. ⌜ now (out .exit) ≡ putOf (now (out .entry)) n r ⌝ }
 {
-    let mut s = at_start();
+    let at = n.place;
+    if at < r.place {
+        out[at] = word_of(n.minus, n.value);
+    }
+}
+
+// Stores the words of lines that pass, so that columns and limits need no second look.
+fn fill(bytes: &[u8], out: &mut [u32])
+    requires { ⌜ Fillable (now bytes) (now out) ⌝ }
+    ensures { λ _. ⌜ now (out .exit) ≡ numbersFrom firstNumber (now (bytes .entry)) ++ drop (length (numbersFrom firstNumber (now (bytes .entry)))) (now (out .entry)) ⌝ }
+{
+    let mut n = Number {
+        minus: false,
+        value: 0,
+        place: 0,
+    };
     let mut i = 0;
     while i < bytes.len() {
-        let r = step(k, s, bytes[i]);
-        put(out, s, r);
-        s = r;
+        let r = number_after(n, bytes[i]);
+        put(out, n, r);
+        n = r;
         i += 1;
     }
 }
 
-// Reads a file with that line of names and k columns: once for the answer, then once for the words, so that a refusal stores nothing.
-pub(crate) fn read_file(names: &[u8], k: usize, file: &[u8], out: &mut [u32]) -> Answer
+// Reads a file with that line of names, k columns and those signs: once for the answer, then once for the words, so that a refusal stores
+// nothing.
+pub(crate) fn read_file(
+    names: &[u8],
+    k: usize,
+    signs: Signs,
+    file: &[u8],
+    out: &mut [u32],
+) -> Answer
     requires { ⌜ 0 < k ⌝ }
-    ensures answer { λ r. ⌜ r ≡ readAnswer (now (names .entry)) k (now (file .entry)) (length (now (out .entry))) ⌝ }
-    ensures words { λ r. ⌜ now (out .exit) ≡ readOut (now (names .entry)) k (now (file .entry)) (now (out .entry)) ⌝ }
+    ensures answer { λ r. ⌜ r ≡ readAnswer (now (names .entry)) (format k signs) (now (file .entry)) (length (now (out .entry))) ⌝ }
+    ensures words { λ r. ⌜ now (out .exit) ≡ readOut (now (names .entry)) (format k signs) (now (file .entry)) (now (out .entry)) ⌝ }
 {
     if !starts_with(names, file) {
         return Answer::Refused {
@@ -203,7 +315,7 @@ pub(crate) fn read_file(names: &[u8], k: usize, file: &[u8], out: &mut [u32]) ->
     }
     let h = names.len();
     let lines = &file[h..];
-    let s = scan_all(k, lines);
+    let s = scan_all(k, signs, lines);
     let whole = (s.phase == 0) & (s.column == 0);
     if !whole {
         return Answer::Refused {
@@ -218,6 +330,6 @@ pub(crate) fn read_file(names: &[u8], k: usize, file: &[u8], out: &mut [u32]) ->
             place: 0,
         };
     }
-    fill(k, lines, out);
+    fill(lines, out);
     Answer::Done(n)
 }

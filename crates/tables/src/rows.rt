@@ -56,7 +56,6 @@ pub(crate) fn out_of_range(r: Row) -> bool
         | (65535 < r.device)
         | ((r.at < 1) | (65535 < r.at))
         | ((r.name < 1) | (65535 < r.name))
-        | (2147483647 < r.value)
 }
 
 pub fn is_above(r: Row, b: Row) -> bool

@@ -1,7 +1,10 @@
-// Writing a file: any line of names, any number of columns.
+// Writing a file: any line of names, any number of columns, any signs.
 use super::Answer;
+use super::columns::Signs;
 use super::columns::byte_after;
+use super::columns::may_sign;
 use super::columns::next_column;
+use super::columns::told_next;
 use powers::WORD_DIGITS;
 use powers::digit_at;
 use powers::power;
@@ -10,9 +13,8 @@ ghost use Prim.Native.Nat.{_+_, _≤_, _<_, _^_};
 ghost use lib.ListN.{length};
 ghost use lib.Seq.{sets};
 ghost use lib.Dec.{leb};
-ghost use Rattle.powers.specs.Powers.{wordDigits};
-ghost use Rattle.tables.specs.Files.{numberText, textFrom, writeAnswer, writeOut};
-ghost use Rattle.tables.specs.Scans.{widerCount, textLength};
+ghost use Rattle.tables.specs.Files.{format, numberText, wordText, linesText, writeAnswer, writeOut};
+ghost use Rattle.tables.specs.Scans.{plainLength, countFrom};
 
 // How many digits a number has.
 fn width(w: u32) -> usize
@@ -48,6 +50,31 @@ fn put_number(out: &mut [u8], at: usize, w: u32) -> usize
     p + 1
 }
 
+// How many bytes a word takes, where it may have a sign or not.
+fn word_width(signed: bool, w: u32) -> usize
+    ensures { λ r. ⌜ (r ≡ length (wordText signed w)) × (r ≤ 11) ⌝ }
+{
+    let below = signed & (2147483647 < w);
+    if below {
+        return width((4294967295 - w) + 1) + 1;
+    }
+    width(w)
+}
+
+// Puts a word at `at`, with its minus sign if it may have one and is below zero, and answers the place past it.
+fn put_word(out: &mut [u8], at: usize, signed: bool, w: u32) -> usize
+    requires { ⌜ at + length (wordText signed w) ≤ length (now out) ⌝ }
+    ensures place { λ r. ⌜ r ≡ at + length (wordText signed w) ⌝ }
+    ensures bytes { λ r. ⌜ now (out .exit) ≡ sets (now (out .entry)) at (wordText signed w) ⌝ }
+{
+    let below = signed & (2147483647 < w);
+    if below {
+        out[at] = b'-';
+        return put_number(out, at + 1, (4294967295 - w) + 1);
+    }
+    put_number(out, at, w)
+}
+
 // Puts the bytes t at `at`.
 fn put_bytes(out: &mut [u8], at: usize, t: &[u8])
     requires { ⌜ at + length (now t) ≤ length (now out) ⌝ }
@@ -60,12 +87,10 @@ fn put_bytes(out: &mut [u8], at: usize, t: &[u8])
     }
 }
 
-// How many of the words have more than n digits.
-fn count_wider(words: &[u32], n: usize) -> usize
-    requires { ⌜ (0 < n) × (n < wordDigits) ⌝ }
-    ensures { λ r. ⌜ r ≡ widerCount n (now (words .entry)) ⌝ }
+// How many of the words are `from` or more.
+fn count_from(words: &[u32], from: u32) -> usize
+    ensures { λ r. ⌜ r ≡ countFrom from (now (words .entry)) ⌝ }
 {
-    let from = power(n);
     let mut count = 0;
     let mut i = 0;
     while i < words.len() {
@@ -75,11 +100,11 @@ fn count_wider(words: &[u32], n: usize) -> usize
     count
 }
 
-// Whether the text of the words fits. Digits are counted power by power, so that a number's width is found once, where it is
+// Whether the words fit without signs. Digits are counted power by power, so that a number's width is found once, where it is
 // written, and only until there is room for all that may be left: nine for each wider number. Sixteen, as nine times might wrap.
-fn text_fits(words: &[u32], room: usize) -> bool
+fn plain_fits(words: &[u32], room: usize) -> bool
     requires { ⌜ room < 2 ^ 63 ⌝ }
-    ensures { λ r. ⌜ r ≡ leb (textLength (now (words .entry))) room ⌝ }
+    ensures { λ r. ⌜ r ≡ leb (plainLength (now (words .entry))) room ⌝ }
 {
     // A digit and the byte after it.
     let mut bytes = 2 * words.len();
@@ -88,7 +113,7 @@ fn text_fits(words: &[u32], room: usize) -> bool
         if room < bytes {
             return false;
         }
-        let wider = count_wider(words, n);
+        let wider = count_from(words, power(n));
         if wider <= (room - bytes) >> 4 {
             return true;
         }
@@ -98,36 +123,80 @@ fn text_fits(words: &[u32], room: usize) -> bool
     bytes <= room
 }
 
+// Whether the words fit with their signs, word by word.
+fn signed_fits(k: usize, signs: Signs, words: &[u32], room: usize) -> bool
+    requires { ⌜ 0 < k ⌝ }
+    ensures { λ r. ⌜ r ≡ leb (length (linesText (format k signs) (now (words .entry)))) room ⌝ }
+{
+    let mut left = room;
+    let mut c = 0;
+    let mut told = false;
+    let mut i = 0;
+    while i < words.len() {
+        let n = word_width(may_sign(k, signs, c, told), words[i]) + 1;
+        if left < n {
+            return false;
+        }
+        left -= n;
+        told = told_next(k, signs, c, words[i], told);
+        c = next_column(k, c);
+        i += 1;
+    }
+    true
+}
+
+// Whether the text of the words fits. A sign adds a byte at most, so that words need not be looked at one by one where there is room for
+// one with each that may have it, nor where there is none.
+fn text_fits(k: usize, signs: Signs, words: &[u32], room: usize) -> bool
+    requires { ⌜ (0 < k) × (room < 2 ^ 63) ⌝ }
+    ensures { λ r. ⌜ r ≡ leb (length (linesText (format k signs) (now (words .entry)))) room ⌝ }
+{
+    let below = count_from(words, 2147483648);
+    if room < below {
+        return false;
+    }
+    if plain_fits(words, room - below) {
+        return true;
+    }
+    if below == 0 {
+        return false;
+    }
+    signed_fits(k, signs, words, room)
+}
+
 // Puts the words at `at`, each with the byte after it, and answers the place past them.
-fn put_words(k: usize, words: &[u32], out: &mut [u8], at: usize) -> usize
-    requires { ⌜ (0 < k) × (at + textLength (now words) ≤ length (now out)) ⌝ }
-    ensures place { λ r. ⌜ r ≡ at + textLength (now (words .entry)) ⌝ }
-    ensures bytes { λ r. ⌜ now (out .exit) ≡ sets (now (out .entry)) at (textFrom k 0 (now (words .entry))) ⌝ }
+fn put_words(k: usize, signs: Signs, words: &[u32], out: &mut [u8], at: usize) -> usize
+    requires { ⌜ (0 < k) × (at + length (linesText (format k signs) (now words)) ≤ length (now out)) ⌝ }
+    ensures place { λ r. ⌜ r ≡ at + length (linesText (format k signs) (now (words .entry))) ⌝ }
+    ensures bytes { λ r. ⌜ now (out .exit) ≡ sets (now (out .entry)) at (linesText (format k signs) (now (words .entry))) ⌝ }
 {
     let mut p = at;
     let mut c = 0;
+    let mut told = false;
     let mut i = 0;
     while i < words.len() {
-        p = put_number(out, p, words[i]);
+        p = put_word(out, p, may_sign(k, signs, c, told), words[i]);
         out[p] = byte_after(k, c);
         p += 1;
+        told = told_next(k, signs, c, words[i], told);
         c = next_column(k, c);
         i += 1;
     }
     p
 }
 
-// Writes the words as a file with that line of names and k columns, if the table's own checks accepted them.
+// Writes the words as a file with that line of names, k columns and those signs, if the table's own checks accepted them.
 pub(crate) fn write_file(
     names: &[u8],
     k: usize,
+    signs: Signs,
     checked: Answer,
     words: &[u32],
     out: &mut [u8],
 ) -> Answer
     requires { ⌜ 0 < k ⌝ }
-    ensures answer { λ r. ⌜ r ≡ writeAnswer (now (names .entry)) k checked (now (words .entry)) (length (now (out .entry))) ⌝ }
-    ensures bytes { λ r. ⌜ now (out .exit) ≡ writeOut (now (names .entry)) k checked (now (words .entry)) (now (out .entry)) ⌝ }
+    ensures answer { λ r. ⌜ r ≡ writeAnswer (now (names .entry)) (format k signs) checked (now (words .entry)) (length (now (out .entry))) ⌝ }
+    ensures bytes { λ r. ⌜ now (out .exit) ≡ writeOut (now (names .entry)) (format k signs) checked (now (words .entry)) (now (out .entry)) ⌝ }
 {
     if let Answer::Refused { number, place } = checked {
         return Answer::Refused {
@@ -142,12 +211,12 @@ pub(crate) fn write_file(
             place: 0,
         };
     }
-    if !text_fits(words, out.len() - h) {
+    if !text_fits(k, signs, words, out.len() - h) {
         return Answer::Refused {
             number: 17,
             place: 0,
         };
     }
     put_bytes(out, 0, names);
-    Answer::Done(put_words(k, words, out, h))
+    Answer::Done(put_words(k, signs, words, out, h))
 }

@@ -1,5 +1,7 @@
 //! The entries of an accepted rule, by meaning.
 
+use super::values::value_of;
+
 #[derive(Clone, Copy, Debug)]
 pub enum Entry {
     Not { child: usize },
@@ -101,13 +103,14 @@ impl Comparison {
         }
     }
 
-    /// Whether it holds, given the value of each variable that it uses.
-    pub fn holds(&self, value: impl Fn(usize) -> u32) -> bool {
-        let left = value(self.left);
-        let right = match self.right {
-            Right::Variable(variable) => value(variable),
+    /// Whether it holds, given the word of each variable that it uses. Nothing else compares values in order:
+    /// verdict, marks, readings and trials all ask here.
+    pub fn holds(&self, word: impl Fn(usize) -> u32) -> bool {
+        let left = value_of(word(self.left));
+        let right = value_of(match self.right {
+            Right::Variable(variable) => word(variable),
             Right::Constant(constant) => constant,
-        };
+        });
         match self.relation {
             Relation::Equal => left == right,
             Relation::Less => left < right,

@@ -3,16 +3,29 @@
 use super::rule::{accepted_rule, ENTRY_WORDS};
 use super::table::{accepted_table, ROW_WORDS};
 use super::tests_of_line::test;
+use super::values::{value_of, word_of};
 use crate::answer::{Answer, Refusal};
 
 pub struct Format {
     /// The line of names, with its byte 10.
     pub first_line: &'static str,
     pub columns: usize,
+    /// Whether the next number of a line has a sign if it is below zero, given those before it in that line.
+    is_signed: fn(&[u32]) -> bool,
 }
 
-pub const RULE: Format = Format { first_line: "kind a b c\n", columns: ENTRY_WORDS };
-pub const POOL: Format = Format { first_line: "device at up deep name value\n", columns: ROW_WORDS };
+/// c of a comparison with a constant is signed.
+pub const RULE: Format = Format {
+    first_line: "kind a b c\n",
+    columns: ENTRY_WORDS,
+    is_signed: |before| matches!(before, [7..=9, _, 1]),
+};
+/// The value is signed.
+pub const POOL: Format = Format {
+    first_line: "device at up deep name value\n",
+    columns: ROW_WORDS,
+    is_signed: |before| matches!(before, [_, _, _, _, _]),
+};
 
 pub fn read_rule(file: &[u8], rule: &mut [u32]) -> Answer {
     read(RULE.words_of(file), rule)
@@ -57,20 +70,37 @@ impl Format {
 
     fn line_of_values(&self, line: &[u8]) -> Option<Vec<u32>> {
         let line = line.strip_suffix(b"\n")?;
-        let values: Option<Vec<u32>> = line.split(|&byte| byte == b' ').map(number).collect();
-        values.filter(|values| values.len() == self.columns)
+        let mut words = vec![];
+        for text in line.split(|&byte| byte == b' ') {
+            let read = if (self.is_signed)(&words) { signed_number } else { number };
+            words.push(read(text)?);
+        }
+        Some(words).filter(|words| words.len() == self.columns)
     }
 
     /// Numbers are written by Rust's own formatting, apart from the library's way.
     pub fn text_of(&self, words: &[u32]) -> Vec<u8> {
         let mut text = self.first_line.to_string();
         for line in words.chunks(self.columns) {
-            let values: Vec<String> = line.iter().map(u32::to_string).collect();
-            text += &values.join(" ");
+            let number = |place: usize| match (self.is_signed)(&line[..place]) {
+                true => value_of(line[place]).to_string(),
+                false => line[place].to_string(),
+            };
+            let numbers: Vec<String> = (0..line.len()).map(number).collect();
+            text += &numbers.join(" ");
             text += "\n";
         }
         text.into_bytes()
     }
+}
+
+/// The word of a value: a number as below, or a minus sign and one that is not 0.
+fn signed_number(text: &[u8]) -> Option<u32> {
+    let value = match text.strip_prefix(b"-") {
+        Some(digits) => -i64::from(number(digits).filter(|&number| number != 0)?),
+        None => i64::from(number(text)?),
+    };
+    word_of(value)
 }
 
 /// Digits without a leading zero, up to 4,294,967,295.

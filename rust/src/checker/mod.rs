@@ -20,9 +20,12 @@ mod spare;
 mod table;
 mod tests_of_line;
 mod trial;
+mod values;
 mod verdict;
 #[cfg(test)]
 mod worked;
+#[cfg(test)]
+mod worked_signs;
 #[cfg(test)]
 mod worked_trials;
 
@@ -40,9 +43,8 @@ pub use set::{accepted_set, check_set, rules_of, set_part, set_verdicts, verdict
 pub use spare::spare_rows;
 pub use table::{accepted_table, check_table, rows_of, words_of, Row, MOST_ROWS, ROW_WORDS};
 pub use trial::{rows_after, tried, try_plan, Room, Tried, ADD, REMOVE, SET, STEP_WORDS};
+pub use values::{value_of, word_of, LEAST_VALUE, MOST_VALUE};
 pub use verdict::verdict;
 
 /// The largest device, at or name.
 pub const MOST_NAME: u32 = 65_535;
-/// The largest value or constant.
-pub const MOST_VALUE: u32 = 2_147_483_647;

@@ -2,7 +2,7 @@
 
 use super::entry::Entry;
 use super::tests_of_line::{test, test_each};
-use super::{MOST_NAME, MOST_VALUE};
+use super::MOST_NAME;
 use crate::answer::{Answer, Refusal};
 
 pub const ENTRY_WORDS: usize = 4;
@@ -35,13 +35,13 @@ pub fn accepted_rule(rule: &[u32]) -> Result<Vec<Entry>, Refusal> {
     Ok(entries)
 }
 
-/// Check 3. Variables and child places have no limit here.
+/// Check 3. Variables, child places and constants have no limit here.
 fn word_at_fault([kind, _, b, c]: [u32; 4]) -> bool {
     match kind {
         1 => b != 0 || c != 0,
         2..=4 => c != 0,
         5 | 6 => !(1..=MOST_NAME).contains(&c),
-        _ => b > 1 || (b == 1 && c > MOST_VALUE),
+        _ => b > 1,
     }
 }
 

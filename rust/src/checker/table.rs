@@ -1,7 +1,7 @@
 //! Checks 8 to 12 and 26, and the rows that a quantifier ranges over.
 
 use super::tests_of_line::{test, test_each};
-use super::{MOST_NAME, MOST_VALUE};
+use super::MOST_NAME;
 use crate::answer::{Answer, Refusal};
 
 pub const ROW_WORDS: usize = 6;
@@ -38,9 +38,9 @@ impl Row {
         !row.is_root() && self.device == row.device && self.at == row.up
     }
 
+    /// Any word is a value.
     fn out_of_range(&self) -> bool {
         [self.device, self.at, self.name].iter().any(|&word| !(1..=MOST_NAME).contains(&word))
-            || self.value > MOST_VALUE
     }
 
     /// All roots of the table are siblings, whatever their devices.
@@ -191,7 +191,7 @@ mod tests {
     fn depth_has_no_range() {
         let mut rows = device(&[[0, 0], [1, u32::MAX], [1, 1]]);
         assert_eq!(check(&rows), Answer::refused(26, 1));
-        rows[2].value = MOST_VALUE + 1;
+        rows[2].name = MOST_NAME + 1;
         assert_eq!(check(&rows), Answer::refused(9, 2));
         rows[2] = rows[1];
         assert_eq!(check(&rows), Answer::refused(10, 2));

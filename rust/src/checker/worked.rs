@@ -51,8 +51,9 @@ fn rule_b() {
 
 #[test]
 fn refusals() {
-    assert_eq!(check_table(&[1, 1, 0, 0, 1, 2_147_483_647]), Answer::Done(1)); // (i)
-    assert_eq!(check_table(&[1, 1, 0, 0, 1, 2_147_483_648]), Answer::refused(9, 0));
+    for value in [2_147_483_647, 2_147_483_648] {
+        assert_eq!(check_table(&[1, 1, 0, 0, 1, value]), Answer::Done(1)); // (i), accepted on both sides
+    }
     let doubled = [&D1[..], &[1, 4, 1, 1, 2, 2]].concat();
     assert_eq!(check_table(&doubled), Answer::refused(12, 3)); // (j)
     assert_eq!(check_rule(&nested(6)), Answer::Done(7)); // (k)

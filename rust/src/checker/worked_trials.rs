@@ -107,12 +107,12 @@ fn a_row_that_is_set_or_removed_is_there() {
 
 #[test]
 fn an_added_row_passes_the_tables_checks() {
-    for step in [[0, 9, 2, 1, 2, 6], [3, 0, 2, 1, 2, 6], [3, 9, 2, 1, 0, 6], [3, 9, 2, 1, 2, 1 << 31]] {
+    for step in [[0, 9, 2, 1, 2, 6], [3, 0, 2, 1, 2, 6], [3, 9, 2, 1, 0, 6]] {
         assert_eq!(number([&[ADD], &step[..]].concat().try_into().expect("seven words")), 9);
     }
-    // There already: with the same words, with others, and with a value out of range.
+    // There already: with the same words, with others, and with a name out of range.
     assert_eq!([number(POOL_CHILD), number([ADD, 1, 4, 9, 9, 9, 9])], [10, 10]);
-    assert_eq!(number([ADD, 1, 4, 2, 1, 2, ANY]), 9);
+    assert_eq!(number([ADD, 1, 4, 2, 1, ANY, 3]), 9);
     // No parent: none there, its own, of another device, a later one, with a wrong depth.
     for (at, up, deep) in [(9, 3, 1), (9, 9, 1), (9, 4, 1), (1, 2, 1), (9, 3, 5)] {
         assert_eq!(number([ADD, 3, at, up, deep, 2, 6]), 11);
@@ -129,10 +129,18 @@ fn an_added_row_passes_the_tables_checks() {
 
 #[test]
 fn a_row_that_is_set_passes_them_too() {
-    assert_eq!([number(set_value(1, 4, 1 << 31)), number(set_value(1, 4, (1 << 31) - 1))], [9, 0]);
     // The value that it has already; that of another device's root.
     assert_eq!(number(set_value(1, 2, 1)), 0);
     assert_eq!(trial(&POOL, &[set_value(1, 2, 7)]).0, refused(12, 0, 3));
+}
+
+/// The largest is above 5 and the least is not, nor is -1; 9 is for device, at and name.
+#[test]
+fn any_word_is_a_value() {
+    for (value, at_most_5) in [(MOST_VALUE, 0), (LEAST_VALUE, 1), (u32::MAX, 1)] {
+        assert_eq!(trial(&POOL, &[set_value(1, 4, value)]).2, [0, at_most_5]);
+        assert_eq!(trial(&POOL, &[[ADD, 3, 9, 2, 1, 2, value]]).2, [0, at_most_5]);
+    }
 }
 
 /// A child is removed, then its parent: the child has no parent any more.

@@ -2,7 +2,7 @@
 
 use super::steps::{Walk, KINDS};
 use super::Case;
-use crate::checker::{Room, Row, ADD, MOST_NAME, MOST_ROWS, MOST_VALUE, REMOVE, ROW_WORDS, SET, STEP_WORDS};
+use crate::checker::{Room, Row, ADD, MOST_NAME, MOST_ROWS, REMOVE, ROW_WORDS, SET, STEP_WORDS};
 
 pub const ZERO: &str = "a row to set or remove whose device or at is 0";
 pub const GONE: &str = "a row to set or remove that was removed before";
@@ -121,7 +121,7 @@ fn row_left(rows: &[Row], kind: u32, row: Row) -> Option<Row> {
 
 fn is_out_of_range(row: &Row) -> bool {
     let is_name = |word: u32| word != 0 && word <= MOST_NAME;
-    !is_name(row.device) || !is_name(row.at) || !is_name(row.name) || row.value > MOST_VALUE
+    !is_name(row.device) || !is_name(row.at) || !is_name(row.name)
 }
 
 fn is_equal(row: &Row, other: &Row) -> bool {

@@ -19,7 +19,7 @@ pub fn chains(random: &mut Random, vocabulary: &Vocabulary, length: usize, besid
             // Check 12: few values, but none twice among siblings, which all have the same name here.
             let mut value = vocabulary.value(random);
             while !taken.insert([siblings, up, value]) {
-                value = random.below(length + beside + 4) as u32;
+                value = vocabulary.value_near(random, length + beside + 4);
             }
             ats[depth].push(at);
             let (deep, name) = (depth as u32, vocabulary.names[depth]);

@@ -4,7 +4,7 @@ use std::collections::HashSet;
 
 use super::known_table::KnownTable;
 use super::library_hash::{ats_of_hash, twin_hash, HASHES};
-use crate::checker::{words_of, Row, MOST_NAME, MOST_ROWS};
+use crate::checker::{words_of, Row, LEAST_VALUE, MOST_NAME, MOST_ROWS};
 use crate::random::Random;
 
 /// Devices so far apart have nearly all places of one hash in common.
@@ -187,7 +187,7 @@ impl Growth<'_> {
     fn with_name_and_value(&mut self, mut row: Row) -> Row {
         loop {
             row.name = self.random.pick(&[1, 2, MOST_NAME]);
-            row.value = self.random.below(1 << 30) as u32;
+            row.value = self.random.pick(&[0, LEAST_VALUE]) + self.random.below(1 << 30) as u32;
             match self.shape.values {
                 Values::OneHash => {
                     let with_value = |value| Row { value, ..row };
@@ -198,7 +198,8 @@ impl Growth<'_> {
                     let siblings = self.table.iter().filter(|earlier| earlier.is_sibling_of(&row)).count();
                     (row.name, row.value) = (1, siblings as u32);
                 }
-                Values::Any => row.value %= MOST_ROWS as u32,
+                // As near to zero, on one of its sides.
+                Values::Any => row.value = (row.value as i32 % MOST_ROWS as i32) as u32,
             }
             if self.take(&row) {
                 return row;

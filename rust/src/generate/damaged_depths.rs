@@ -2,7 +2,7 @@
 
 use super::depths::{change_row, make_wrong, row_at};
 use super::known_table::KnownTable;
-use crate::checker::{rows_of, Row, MOST_NAME, MOST_VALUE, ROW_WORDS};
+use crate::checker::{rows_of, Row, MOST_NAME, ROW_WORDS};
 use crate::random::Random;
 
 /// An accepted table, most often with wrong depths put in, and at times with other faults.
@@ -85,8 +85,7 @@ impl KnownTable {
         let place = random.between(least, rows - 1);
         let before = row_at(&self.words, place.saturating_sub(1));
         change_row(&mut self.words, place, |row| match number {
-            9 if random.chance(50) => row.name = random.pick(&[0, MOST_NAME + 1, u32::MAX]),
-            9 => row.value = random.pick(&[MOST_VALUE + 1, u32::MAX]),
+            9 => row.name = random.pick(&[0, MOST_NAME + 1, u32::MAX]),
             10 => (row.device, row.at) = (before.device, before.at),
             // No row has these, or only this one and those behind it.
             _ => row.up = random.pick(&[row.at, row.at + 1, MOST_NAME + 1, u32::MAX]),

@@ -6,7 +6,7 @@ use super::depths::wrong_depth;
 use super::faults::change_a_word;
 use super::plans::Plan;
 use super::steps::step_of;
-use crate::checker::{rows_after, rows_of, Row, ADD, MOST_VALUE, REMOVE, SET, STEP_WORDS};
+use crate::checker::{rows_after, rows_of, Row, ADD, REMOVE, SET, STEP_WORDS};
 use crate::random::Random;
 
 #[derive(Clone, Copy, Debug, PartialEq, Eq)]
@@ -15,8 +15,7 @@ pub enum StepFault {
     SetNotThere,
     RemoveNotThere,
     RowsUnder,
-    AddOutOfRange,
-    SetOutOfRange,
+    OutOfRange,
     ThereAlready,
     NoParent,
     WrongDepth,
@@ -30,13 +29,12 @@ pub enum StepFault {
 use StepFault::*;
 
 /// With the number that is mostly found where the fault is the only one.
-pub const STEP_FAULTS: [(StepFault, u32); 13] = [
+pub const STEP_FAULTS: [(StepFault, u32); 12] = [
     (UnknownKind, 23),
     (SetNotThere, 24),
     (RemoveNotThere, 24),
     (RowsUnder, 25),
-    (AddOutOfRange, 9),
-    (SetOutOfRange, 9),
+    (OutOfRange, 9),
     (ThereAlready, 10),
     (NoParent, 11),
     (WrongDepth, 26),
@@ -48,7 +46,7 @@ pub const STEP_FAULTS: [(StepFault, u32); 13] = [
 
 /// Those that an added row may have together.
 const OF_ADDED: [StepFault; 6] =
-    [AddOutOfRange, ThereAlready, NoParent, WrongDepth, AddEqualSibling, AddEqualRoot];
+    [OutOfRange, ThereAlready, NoParent, WrongDepth, AddEqualSibling, AddEqualRoot];
 
 /// A plan of steps that can be done, with a step among them that has one fault, or two or three; at times the
 /// last lacks words.
@@ -86,7 +84,8 @@ pub fn any_steps(random: &mut Random) -> Vec<u32> {
         let (device, at) = (random.between(1, 2) as u32, random.between(1, 6) as u32);
         let deep = random.pick(&[0, 0, 1, 1, 2]);
         let up = if deep == 0 { 0 } else { random.between(1, 4) as u32 };
-        let (name, value) = (random.between(1, 2) as u32, random.below(4) as u32);
+        // -1 to 2.
+        let (name, value) = (random.between(1, 2) as u32, (random.below(4) as u32).wrapping_sub(1));
         steps.extend([kind, device, at, up, deep, name, value]);
         if random.chance(3) {
             change_a_word(random, &mut steps);
@@ -141,7 +140,7 @@ fn rows_and_gone(plan: &Plan, steps: usize) -> (Vec<Row>, Vec<Row>) {
 
 /// A row that the table takes, if there is a number left for it.
 fn good_row(random: &mut Random, rows: &[Row]) -> Row {
-    let value = random.word() & MOST_VALUE;
+    let value = random.word();
     if rows.is_empty() || random.chance(15) {
         let device = rows.last().map_or(1, |row| row.device + 1);
         return Row { device, at: random.between(1, 9) as u32, up: 0, deep: 0, name: 1, value };
@@ -169,7 +168,7 @@ impl Faulty<'_> {
     fn put(&mut self, fault: StepFault) {
         self.kind = match fault {
             UnknownKind => unknown_kind(self.random),
-            SetNotThere | SetOutOfRange | SetEqualSibling | SetEqualRoot => SET,
+            SetNotThere | SetEqualSibling | SetEqualRoot => SET,
             RemoveNotThere | RowsUnder => REMOVE,
             _ => ADD,
         };
@@ -177,11 +176,7 @@ impl Faulty<'_> {
             UnknownKind => {}
             SetNotThere | RemoveNotThere => self.not_there(),
             RowsUnder => self.become_one_of(|row, other| row.is_parent_of(other)),
-            AddOutOfRange => out_of_range(self.random, &mut self.row),
-            SetOutOfRange => {
-                self.become_one_of(|_, _| true);
-                self.row.value = self.random.pick(&[1 << 31, (1 << 31) + 1, u32::MAX]);
-            }
+            OutOfRange => out_of_range(self.random, &mut self.row),
             ThereAlready => self.there_already(),
             NoParent => self.no_parent(),
             WrongDepth => self.row.deep = wrong_depth(self.random, self.row),
@@ -201,12 +196,8 @@ impl Faulty<'_> {
         }
     }
 
-    /// As a new row; a number that none has, one that some had, the at of one device in another. At times
-    /// the value is out of range.
+    /// As a new row; a number that none has, one that some had, the at of one device in another.
     fn not_there(&mut self) {
-        if self.random.chance(30) {
-            self.row.value = u32::MAX;
-        }
         match self.random.below(6) {
             0 => self.row.device = self.random.pick(&[0, 65_535, 65_536, u32::MAX]),
             1 => self.row.at = self.random.pick(&[0, 65_535, 65_536, u32::MAX]),

@@ -89,18 +89,14 @@ fn on_some_entry(
     }
 }
 
-/// Check 3: a word that is due 0, b of a comparison, a name or a constant.
+/// Check 3: a word that is due 0, b of a comparison, or a name.
 fn wrong_word(random: &mut Random, words: &mut [u32]) {
     let above_0 = random.pick(&[1, 2, 65_536, u32::MAX]);
     match words[0] {
         1 => words[random.between(2, 3)] = above_0,
         2..=4 => words[3] = above_0,
         5 | 6 => words[3] = random.pick(&[0, 65_536, 65_537, 2_147_483_648, u32::MAX]),
-        _ if random.chance(50) => words[2] = random.pick(&[2, 3, 65_536, u32::MAX]),
-        _ => {
-            words[2] = 1;
-            words[3] = random.pick(&[2_147_483_648, 2_147_483_649, u32::MAX]);
-        }
+        _ => words[2] = random.pick(&[2, 3, 65_536, u32::MAX]),
     }
 }
 

@@ -73,11 +73,10 @@ fn wrong_length(random: &mut Random, table: &mut Vec<u32>) {
 pub fn out_of_range(random: &mut Random, row: &mut Row) {
     let out = [0, 0, 65_536, 65_537, 2_147_483_647, 2_147_483_648, u32::MAX];
     loop {
-        match random.below(4) {
+        match random.below(3) {
             0 => row.device = random.pick(&out),
             1 => row.at = random.pick(&out),
-            2 => row.name = random.pick(&out),
-            _ => row.value = random.pick(&[2_147_483_648, 2_147_483_649, u32::MAX]),
+            _ => row.name = random.pick(&out),
         }
         if random.chance(80) {
             return;

@@ -2,7 +2,7 @@
 
 use std::collections::{BTreeSet, HashMap, HashSet};
 
-use crate::checker::{devices_of, rows_of, words_of, Row, ENTRY_WORDS, MOST_NAME, MOST_VALUE};
+use crate::checker::{devices_of, rows_of, words_of, Row, ENTRY_WORDS, LEAST_VALUE, MOST_NAME, MOST_VALUE};
 use crate::random::Random;
 
 /// How many digits the number has.
@@ -17,6 +17,12 @@ pub fn ends_of_digits(most: u32) -> BTreeSet<u32> {
     let ends = round.flat_map(|number| [number - 1, number, number + 1]);
     let words = ends.filter_map(|number| u32::try_from(number).ok()).filter(|&number| number <= most);
     words.chain([most]).collect()
+}
+
+/// The words of such values up to the largest and down to the least.
+pub fn ends_of_values() -> BTreeSet<u32> {
+    let below_zero = ends_of_digits(LEAST_VALUE).into_iter().map(u32::wrapping_neg);
+    ends_of_digits(MOST_VALUE).into_iter().chain(below_zero).collect()
 }
 
 /// A number up to `most`, which is at least 2. Each width comes about as often as the others.
@@ -62,6 +68,23 @@ fn name(random: &mut Random) -> u32 {
     number_up_to(random, MOST_NAME).max(1)
 }
 
+/// Any word. Each width comes often, as a value of either sign too.
+pub fn any_number(random: &mut Random) -> u32 {
+    if random.chance(50) {
+        number_up_to(random, u32::MAX)
+    } else {
+        value(random)
+    }
+}
+
+/// The word of a value of either sign.
+fn value(random: &mut Random) -> u32 {
+    match random.chance(50) {
+        true => number_up_to(random, MOST_VALUE),
+        false => number_up_to(random, LEAST_VALUE).wrapping_neg(),
+    }
+}
+
 /// An accepted rule with other names and constants; most comparisons then have a constant.
 pub fn renumbered_rule(random: &mut Random, rule: &[u32]) -> Vec<u32> {
     let mut rule = rule.to_vec();
@@ -69,7 +92,7 @@ pub fn renumbered_rule(random: &mut Random, rule: &[u32]) -> Vec<u32> {
         match words[0] {
             5 | 6 => words[3] = name(random),
             7..=9 if words[2] == 1 || random.chance(60) => {
-                (words[2], words[3]) = (1, number_up_to(random, MOST_VALUE));
+                (words[2], words[3]) = (1, value(random));
             }
             _ => {}
         }
@@ -113,7 +136,7 @@ fn untaken(
     taken: &mut HashSet<((u32, u32), u32, u32)>,
 ) -> (u32, u32) {
     loop {
-        let (name, value) = (name(random), number_up_to(random, MOST_VALUE));
+        let (name, value) = (name(random), value(random));
         if taken.insert((siblings, name, value)) {
             return (name, value);
         }

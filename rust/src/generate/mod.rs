@@ -15,10 +15,12 @@ mod depths;
 mod digits;
 mod far_sets;
 mod faults;
+mod known_file;
 mod known_table;
 mod lengths;
 mod library_hash;
 mod nested;
+mod order_of_words;
 #[cfg(test)]
 mod plan_tests;
 mod plans;
@@ -38,19 +40,23 @@ pub use conjunction::conjunction;
 pub use cost::{files_cost, reading_cost, set_cost, verdict_cost};
 pub use damaged_collisions::damaged_collisions;
 pub use damaged_depths::damaged_depths;
-pub use damaged_file::{damaged_file, file_of_words};
+pub use damaged_file::{damaged_file, file_of, file_of_words};
 pub use damaged_plan::{any_steps, damaged_plan, with_added_row, with_faulty_step, StepFault, STEP_FAULTS};
 pub use damaged_rule::{any_rule, damage_rule, damaged_rule, RULE_FAULTS};
 pub use damaged_set::{damage_set, damaged_set, SetFault, SET_FAULTS};
 pub use damaged_table::{any_table, damage_table, damaged_table, TABLE_FAULTS};
-pub use digits::{ends_of_digits, number_up_to, renumbered_rule, renumbered_table, width_of};
+pub use digits::{
+    any_number, ends_of_digits, ends_of_values, number_up_to, renumbered_rule, renumbered_table, width_of,
+};
 pub use far_sets::{behind_nots, far_apart};
+pub use known_file::{known_file, KnownFile, KnownLine};
 pub use known_table::KnownTable;
 pub use lengths::{
     lengths_around, mostly_enough, one_length_around, some_lengths_around, words_sent, words_sent_for,
 };
 pub use library_hash::{ats_of_hash, library_hash, place_hash, twin_hash, FACTORS, STEPS};
 pub use nested::{nested_rule, NestedRule};
+pub use order_of_words::{other_marks, other_part, other_trial, other_verdict, other_verdicts};
 pub use plans::{plan, plan_on_a_full_table, plan_on_colliding_rows, Plan, PlanLimit};
 pub use pools::{pool, pool_of, PoolShape};
 pub use requests::{one_or_several, unknown_mode, with_another_device};
@@ -59,6 +65,6 @@ pub use rules::{rule, rule_of, RuleShape};
 pub use sets::{set, set_and_devices, set_and_devices_or_roots, set_and_pool, set_and_roots, Set};
 pub use together::{
     damaged_together, deep_rows, nested_rule_and_table, rule_and_deep_rows, rule_and_devices, rule_and_pool,
-    rule_and_roots, rule_and_siblings, Together,
+    rule_and_roots, rule_and_siblings, rule_and_signs, Together,
 };
 pub use vocabulary::{word_of_any_class, Vocabulary, NOT_IN_POOL, NO_RULE};

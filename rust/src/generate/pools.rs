@@ -3,7 +3,7 @@
 use std::collections::HashSet;
 
 use super::vocabulary::Vocabulary;
-use crate::checker::{Row, MOST_NAME, MOST_ROWS, MOST_VALUE};
+use crate::checker::{Row, MOST_NAME, MOST_ROWS};
 use crate::random::Random;
 
 #[derive(Clone, Copy, Debug)]
@@ -124,8 +124,8 @@ impl Growth<'_> {
             let name = self.vocabulary.name(self.random, up == 0);
             let value = match attempt {
                 0..=3 if !self.shape.spread => self.vocabulary.value(self.random),
-                0..=20 => self.random.below(self.shape.rows + 4) as u32,
-                _ => self.random.word() & MOST_VALUE,
+                0..=20 => self.vocabulary.value_near(self.random, self.shape.rows + 4),
+                _ => self.random.word(),
             };
             let device_of_siblings = if up == 0 { 0 } else { device };
             if self.taken.insert([device_of_siblings, up, name, value]) {

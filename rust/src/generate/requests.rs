@@ -1,6 +1,6 @@
 //! What may be wrong with a request for a part beside its rules and its table.
 
-use crate::checker::{rows_of, Row, MOST_VALUE};
+use crate::checker::{rows_of, Row};
 use crate::random::Random;
 
 pub fn unknown_mode(random: &mut Random) -> u32 {
@@ -10,8 +10,7 @@ pub fn unknown_mode(random: &mut Random) -> u32 {
 /// The rows of a device, and a root of the next one behind them.
 pub fn with_another_device(random: &mut Random, device: &[u32]) -> Vec<u32> {
     let next = rows_of(device).last().map_or(1, |row| row.device + 1);
-    let value = random.word() & MOST_VALUE;
-    let other = Row { device: next, at: 1, up: 0, deep: 0, name: 1, value };
+    let other = Row { device: next, at: 1, up: 0, deep: 0, name: 1, value: random.word() };
     [device, &other.words()].concat()
 }
 

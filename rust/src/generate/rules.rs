@@ -189,7 +189,7 @@ impl Tree<'_> {
             return [kind, left as u32, 0, self.random.below(around) as u32];
         }
         let value = self.vocabulary.value(self.random);
-        let constant = if self.random.chance(90) { value } else { self.random.word() >> 1 };
+        let constant = if self.random.chance(90) { value } else { self.random.word() };
         [kind, left as u32, 1, constant]
     }
 

@@ -3,7 +3,7 @@
 use std::collections::HashSet;
 
 use super::vocabulary::{word_of_any_class, Vocabulary, NOT_IN_POOL, NO_RULE};
-use crate::checker::{rows_after, rows_of, Row, ADD, MOST_NAME, MOST_VALUE, REMOVE, SET, STEP_WORDS};
+use crate::checker::{rows_after, rows_of, Row, ADD, MOST_NAME, REMOVE, SET, STEP_WORDS};
 use crate::random::Random;
 
 /// How often a step is tried that the table then may not take.
@@ -91,8 +91,8 @@ impl Steps<'_> {
     fn value(&mut self) -> u32 {
         match self.random.below(10) {
             0..=7 => self.vocabulary.value(self.random),
-            8 => self.random.below(self.rows.len() + 4) as u32,
-            _ => self.random.word() & MOST_VALUE,
+            8 => self.vocabulary.value_near(self.random, self.rows.len() + 4),
+            _ => self.random.word(),
         }
     }
 

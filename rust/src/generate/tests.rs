@@ -3,8 +3,9 @@
 use super::*;
 use crate::answer::Answer;
 use crate::checker::{
-    accepted_rule, accepted_table, check_rule, check_set, check_table, marks, part, rows_of, set_part, Entry,
-    ENTRY_WORDS, MOST_ENTRIES, MOST_NAME, MOST_NESTED, MOST_RULES, MOST_VALUE, ROW_WORDS,
+    accepted_rule, accepted_table, check_rule, check_set, check_table, marks, part, rows_of, set_part,
+    value_of, verdict, Entry, ENTRY_WORDS, MOST_ENTRIES, MOST_NAME, MOST_NESTED, MOST_RULES, MOST_VALUE,
+    POOL, ROW_WORDS, RULE,
 };
 use crate::random::Random;
 
@@ -46,6 +47,43 @@ fn numbers_keep_to_their_limit() {
     }
     let ends: Vec<u32> = ends_of_digits(31).into_iter().collect();
     assert_eq!(ends, [0, 1, 2, 3, 4, 5, 6, 7, 8, 9, 10, 11, 19, 20, 21, 29, 30, 31]);
+    let values: Vec<i64> = ends_of_values().into_iter().map(value_of).collect();
+    for value in [-2_147_483_648, -2_000_000_000, -1_000_000_001, -10, -9, -1, 0, 999_999_999, 2_147_483_647]
+    {
+        assert!(values.contains(&value), "{value}");
+    }
+}
+
+/// The order of the words would turn some verdicts of any rules and pools, and most of those that are made for
+/// it, of which about as many are true as false.
+#[test]
+fn signs_decide_verdicts() {
+    let limit = Together { rows: 40, cost: 10_000 };
+    let (mut of_any, mut of_signs, mut holds) = (0, 0, 0);
+    for seed in 0..3_000 {
+        let (rule, pool) = rule_and_pool(&mut Random::new(seed), limit);
+        of_any += other_verdict(&rule, &pool) as u32;
+        let (rule, pool) = rule_and_signs(&mut Random::new(seed), limit);
+        of_signs += other_verdict(&rule, &pool) as u32;
+        holds += (verdict(&rule, &pool) == Answer::Done(1)) as u32;
+    }
+    assert!(of_any >= 100 && of_signs >= 2_000, "{of_any} of any, {of_signs} of signs");
+    assert!((1_000..=2_000).contains(&holds), "{holds} are true");
+}
+
+/// The checker reads of them what they tell.
+#[test]
+fn known_files_are_as_they_tell() {
+    let mut refused = 0;
+    for seed in 0..10_000 {
+        let random = &mut Random::new(seed);
+        let rule = random.chance(50);
+        let file = known_file(random, rule);
+        let found = if rule { RULE.words_of(&file.bytes) } else { POOL.words_of(&file.bytes) };
+        assert_eq!(found, file.words, "seed {seed}: {file:?}");
+        refused += found.is_err() as u32;
+    }
+    assert!((2_500..=7_500).contains(&refused), "{refused} are refused");
 }
 
 /// In most rules quantifiers over roots stand around one another, in many also beside one another, and the reading of bodies often makes

@@ -5,6 +5,7 @@ use super::cost::{reading_cost, verdict_cost};
 use super::damaged_rule::damaged_rule;
 use super::damaged_table::damaged_table;
 use super::nested::{nested_rule, nested_rule_along, NestedRule};
+use super::order_of_words::other_verdict;
 use super::pools::{pool_of, PoolShape};
 use super::rules::{rule_of, RuleShape, Sides};
 use super::vocabulary::Vocabulary;
@@ -21,8 +22,28 @@ pub struct Together {
 
 /// An accepted rule and an accepted pool.
 pub fn rule_and_pool(random: &mut Random, limit: Together) -> (Vec<u32>, Vec<u32>) {
+    rule_and_pool_of(random, limit, Vocabulary::new)
+}
+
+/// The same with values around zero and at both ends. By the order of the words, most of the rules would have
+/// another verdict.
+pub fn rule_and_signs(random: &mut Random, limit: Together) -> (Vec<u32>, Vec<u32>) {
+    let any = random.chance(30);
     loop {
-        let vocabulary = Vocabulary::new(random);
+        let (rule, pool) = rule_and_pool_of(random, limit, Vocabulary::of_edges);
+        if any || other_verdict(&rule, &pool) {
+            return (rule, pool);
+        }
+    }
+}
+
+fn rule_and_pool_of(
+    random: &mut Random,
+    limit: Together,
+    vocabulary: fn(&mut Random) -> Vocabulary,
+) -> (Vec<u32>, Vec<u32>) {
+    loop {
+        let vocabulary = vocabulary(random);
         let mut shape = PoolShape::new(random);
         shape.rows = shape.rows.min(limit.rows);
         shape.devices = shape.devices.min(limit.rows.max(1));

@@ -1,6 +1,6 @@
 -- `tables::reading::past_number` meets its contract. Assumes nothing.
-use borrow.Author.Needs.{needs}
 use borrow.Author.Tests.{eq-eqb, ne-eqb}
+use borrow.Author.Needs.{needs}
 use Rattle.tables.proofs.reading.past_number.Statement.{statement}
 use Rattle.tables.proofs.reading.past_number.Tie as tie
 
@@ -11,5 +11,10 @@ past-number-spec = tie.close (tie.spec
     (λ c. search needs)
     (λ c. simp (eq-eqb _ _ (c .before .before .if1 .taken)))
     (λ c. search needs)
+    (λ c κs. c .before .before .before .pre .1)
+    (λ c κs. c .before .before .before .before .pre .0 .0)
     (λ c. search needs)
-    (λ c. simp (ne-eqb _ _ (c .before .before .if1 .left))))
+    (λ c. let if1 = c .before .before .before .before .if1 in
+    let word-of = c .before .before .word-of in
+    let told-next = c .before .told-next in
+    simp (ne-eqb _ _ (if1 .left), ← word-of .ensures, told-next .ensures)))
