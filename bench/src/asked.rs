@@ -1,7 +1,8 @@
 //! The figures that are asked for, beside those measured.
 
 use crate::cases::{
-    label, A_TRUE, BOOK_ON_DEVICES, BOOK_ON_ONE_DEVICE, B_TRUE, C_TRUE, ONE_DEVICE, THREE_ROWS,
+    label, A_TRUE, BOOK_ON_DEVICES, BOOK_ON_ONE_DEVICE, B_TRUE, C_TRUE, LONGEST_WITHOUT_SIGNS, ONE_DEVICE,
+    ORDER_ON_ROOTS, THREE_ROWS,
 };
 use crate::instructions::{shown, Counts};
 use crate::trial;
@@ -19,13 +20,17 @@ const fn limit(call: &'static str, on: &'static str, rows: u32, most: Option<u64
     Limit { call, on, rows, most }
 }
 
-const LIMITS: [Limit; 21] = [
+const LIMITS: [Limit; 24] = [
     limit("check_table", THREE_ROWS, 1_020, Some(400_000)),
     limit("check_table", ONE_DEVICE, 1_021, Some(400_000)),
     limit("verdict", B_TRUE, 1_020, Some(2_000_000)),
     limit("verdict", A_TRUE, 1_020, Some(1_000_000)),
     limit("verdict", C_TRUE, 1_021, Some(8_000_000)),
     limit("marks", B_TRUE, 1_020, Some(150_000_000)),
+    // Three percent more for a verdict, and ten for reading, than before values had signs.
+    limit("verdict", ORDER_ON_ROOTS, 256, Some(19_970_628)),
+    limit("read_pool", THREE_ROWS, 1_020, Some(891_005)),
+    limit("read_rule", LONGEST_WITHOUT_SIGNS, 0, Some(106_285)),
     limit("part, mode 2", "rule A, one device", 1_021, None),
     limit("part, mode 3", "rule A, one device", 1_021, None),
     limit("part, mode 2", "rule B, one device", 1_021, None),

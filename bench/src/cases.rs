@@ -56,7 +56,6 @@ const TEN_DIGITS: &str = "devices of three rows, values of ten digits";
 const NINES: &str = "devices of three rows, values of nines";
 const BELOW_ZERO: &str = "devices of three rows, values below zero";
 const LONGEST: &str = "longest rule, 128 entries";
-const LONGEST_WITHOUT_SIGNS: &str = "longest rule without signs, 128 entries";
 pub const ONE_DEVICE: &str = "one device";
 /// Each row hangs under the one before.
 const PATH: &str = "one path of rows";
@@ -72,6 +71,8 @@ const LATE: &str = "late rule, roots";
 /// No comparison uses the innermost variable: a reading need not bind it.
 const EARLY: &str = "early rule, roots";
 
+pub const ORDER_ON_ROOTS: &str = "order rule, roots";
+pub const LONGEST_WITHOUT_SIGNS: &str = "longest rule without signs, 128 entries";
 pub const BOOK: &str = "rule book of 20";
 pub const BOOK_ON_DEVICES: &str = "rule book of 20, devices of three rows";
 pub const BOOK_ON_ONE_DEVICE: &str = "rule book of 20, one device";
@@ -120,7 +121,7 @@ pub fn all() -> Vec<Case> {
 /// Comparisons in order, and files with and without signs.
 fn signs(cases: &mut Vec<Case>) {
     let rows = 256;
-    cases.push(case(verdict(&ORDER, roots(rows, 1)), "order rule, roots", rows));
+    cases.push(case(verdict(&ORDER, roots(rows, 1)), ORDER_ON_ROOTS, rows));
     cases.push(case(verdict(&ORDER, roots_across_zero(rows)), "order rule, roots across zero", rows));
     let rows = 1_020;
     for (table, on) in [(values_of_ten_digits(rows), TEN_DIGITS), (values_below_zero(rows), BELOW_ZERO)] {

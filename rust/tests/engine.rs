@@ -5,8 +5,6 @@ use gabzeril_tests::checker::ROW_WORDS;
 use gabzeril_tests::compare::{calls, run};
 use gabzeril_tests::generate::*;
 
-const OTHER_VERDICT: &str = "another verdict by the order of the words";
-
 #[test]
 fn accepted_rules_and_pools() {
     let limit = Together { rows: 1_024, cost: 60_000 };

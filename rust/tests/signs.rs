@@ -23,11 +23,9 @@ const POOL_FILE: &[u8] = b"device at up deep name value\n1 1 0 0 1 -2147483648\n
 const RULE_FILE: &[u8] = b"kind a b c\n6 1 0 1\n8 0 1 -2147483647\n";
 
 // What the order of the words would give.
-const OTHER_VERDICT: &str = "another verdict by the order of the words";
 const OTHER_MARKS: &str = "other marks by the order of the words";
 const OTHER_PART: &str = "another full part by the order of the words";
 const OTHER_VERDICTS: &str = "other verdicts of a set by the order of the words";
-const OTHER_TRIAL: &str = "a plan with other verdicts by the order of the words";
 
 // What the last number of a line is taken for, behind a line where it is taken otherwise.
 const SIGN: &str = "a constant with a sign, behind a line without constant";

@@ -23,7 +23,6 @@ const SET_AND_POOL: &str = "set and pool refused";
 const SET_AND_ROOM: &str = "set refused and no room for the pool";
 const POOL_AND_ROOM: &str = "pool refused and no room for it";
 const FAR: &str = "a set refused past entry 2,048";
-const OTHER_TRIAL: &str = "a plan with other verdicts by the order of the words";
 
 /// Compares the call, and notes what it met.
 fn compare(case: &mut Case, plan: &Plan, room: Room) -> Result<Tried, Refusal> {

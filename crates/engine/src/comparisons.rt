@@ -3,6 +3,7 @@ use super::bindings::Bindings;
 use super::words::place_of;
 use super::words::value_at;
 use tables::Entry;
+use tables::VALUE_LIMIT;
 ghost use mathlib.Core.Path.{_≡_};
 ghost use Prim.Native.Nat.{_<_};
 ghost use Rattle.tables.specs.Rules.{nestingLimit};
@@ -15,10 +16,10 @@ ghost use Rattle.engine.specs.Ready.{Placed, comparisonOf, meant, compar
 fn is_less(x: u32, y: u32) -> bool
     ensures { λ r. ⌜ r ≡ isLess x y ⌝ }
 {
-    if 2147483647 < x {
-        return !(2147483647 < y) | (x < y);
+    if VALUE_LIMIT < x {
+        return !(VALUE_LIMIT < y) | (x < y);
     }
-    !(2147483647 < y) & (x < y)
+    !(VALUE_LIMIT < y) & (x < y)
 }
 
 // A comparison of kind 7, 8 or 9, for collector and switch; any other kind compares as 9 does.

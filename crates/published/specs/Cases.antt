@@ -1,6 +1,6 @@
--- 01's worked pools (a) to (l), numbers of every width, values below zero, the reductions that lose a verdict, readings over roots, sets of rules, plans, and
--- a table on which the published meaning is not that of rows: the rows of one table, with one test over all of them, proved in
--- proofs/Cases. Assumes nothing.
+-- 01's worked pools (a) to (l), numbers of every width, values below zero, the reductions that lose a verdict, readings over roots,
+-- sets of rules, plans, and a table on which the published meaning is not that of rows: the rows of one table, with one test over all
+-- of them, proved in proofs/Cases. Assumes nothing.
 use Prim.Native.Nat.{ℕ, zero, suc, _+_, _-_, _*_}
 use mathlib.Core.Path.{_≡_}
 use mathlib.Core.Bool.{Bool, true, false, not, cond, _&&_}
@@ -10,6 +10,7 @@ use lib.Dec.{eqb}
 use Rattle.base.specs.Lists.{select, concatMap, all}
 use Rattle.tables.specs.Answers.{number, place, value, isDone}
 use Rattle.tables.specs.Words.{rows, rowCount}
+use Rattle.tables.specs.Values.{opposite}
 use Rattle.tables.specs.Rules.{one, checkRule, acceptedRule}
 use Rattle.tables.specs.Tables.{checkTable}
 use Rattle.tables.specs.Joining.{joinAnswer, joinPool}
@@ -73,10 +74,6 @@ everyIs k = entry 5 1 0 1 ++ entry 7 0 1 k
 -- every a compares so with k
 abbrev pub everyCompares : ℕ → ℕ → List ℕ
 everyCompares kind k = entry 5 1 0 1 ++ entry kind 0 1 k
-
--- the word of a number below zero
-abbrev pub below : ℕ → ℕ
-below n = 4294967296 - n
 
 -- every a is 1 or 2
 abbrev pub everyIsEither : List ℕ
@@ -172,6 +169,10 @@ rowTo value = digit 1 ∷ digit 1 ∷ digit 0 ∷ digit 0 ∷ digit 1 ∷ value 
 
 abbrev pub entryTo : ℕ → ℕ → ℕ → List ℕ → List (List ℕ)
 entryTo kind a b c = digit kind ∷ digit a ∷ digit b ∷ c ∷ []
+
+-- a line that is none in any file: one number
+abbrev pub shortLine : List ℕ
+shortLine = line (digit 1 ∷ [])
 
 -- ---- what a case gives and expects
 -- a row by (device, at)
@@ -325,30 +326,36 @@ cases =
     ∷ ruleChecked (everyIs 2147483648) (Done 2)
     ∷ ruleChecked (everyIs 4294967295) (Done 2)
     -- -1 is less than 0, and 0 is not at most -1; -2,147,483,648 is less than -1, than 2,147,483,647, and not than itself
-    ∷ judged (everyCompares 8 0) (row 1 1 0 0 1 (below 1)) true (key 1 1)
-    ∷ judged (everyCompares 9 (below 1)) (row 1 1 0 0 1 0) false (key 1 1)
-    ∷ judged (everyCompares 8 (below 1)) (row 1 1 0 0 1 (below 2147483648)) true (key 1 1)
-    ∷ judged (everyCompares 8 2147483647) (row 1 1 0 0 1 (below 2147483648)) true (key 1 1)
-    ∷ judged (everyCompares 8 (below 2147483648)) (row 1 1 0 0 1 (below 2147483648)) false (key 1 1)
-    ∷ judged (everyCompares 9 (below 2147483648)) (row 1 1 0 0 1 (below 2147483648)) true (key 1 1)
+    ∷ judged (everyCompares 8 0) (row 1 1 0 0 1 (opposite 1)) true (key 1 1)
+    ∷ judged (everyCompares 9 (opposite 1)) (row 1 1 0 0 1 0) false (key 1 1)
+    ∷ judged (everyCompares 8 (opposite 1)) (row 1 1 0 0 1 (opposite 2147483648)) true (key 1 1)
+    ∷ judged (everyCompares 8 2147483647) (row 1 1 0 0 1 (opposite 2147483648)) true (key 1 1)
+    ∷ judged (everyCompares 8 (opposite 2147483648)) (row 1 1 0 0 1 (opposite 2147483648)) false (key 1 1)
+    ∷ judged (everyCompares 9 (opposite 2147483648)) (row 1 1 0 0 1 (opposite 2147483648)) true (key 1 1)
     -- on the switch too: 1 may decide, -1 may not
-    ∷ sends (everyCompares 8 0) 3 (row 1 1 0 0 1 1 ++ row 1 2 0 0 1 (below 1)) (row 1 1 0 0 1 1)
+    ∷ sends (everyCompares 8 0) 3 (row 1 1 0 0 1 1 ++ row 1 2 0 0 1 (opposite 1)) (row 1 1 0 0 1 1)
     -- the lines of such values, and of such constants
-    ∷ poolFiled (row 1 1 0 0 1 (below 1)) (lineBelow (rowTo (digit 1)))
-    ∷ poolFiled (row 1 1 0 0 1 (below 2147483648)) (lineBelow (rowTo (limitWith 8)))
+    ∷ poolFiled (row 1 1 0 0 1 (opposite 1)) (lineBelow (rowTo (digit 1)))
+    ∷ poolFiled (row 1 1 0 0 1 (opposite 2147483648)) (lineBelow (rowTo (limitWith 8)))
     ∷ poolFiled (row 1 1 0 0 1 2147483647) (line (rowTo (limitWith 7)))
-    ∷ ruleFiled (everyCompares 8 (below 1)) (line (entryTo 5 1 0 (digit 1)) ++ lineBelow (entryTo 8 0 1 (digit 1)))
-    ∷ ruleFiled (everyIs (below 2147483648)) (line (entryTo 5 1 0 (digit 1)) ++ lineBelow (entryTo 7 0 1 (limitWith 8)))
+    ∷ ruleFiled (everyCompares 8 (opposite 1)) (line (entryTo 5 1 0 (digit 1)) ++ lineBelow (entryTo 8 0 1 (digit 1)))
+    ∷ ruleFiled (everyIs (opposite 2147483648)) (line (entryTo 5 1 0 (digit 1)) ++ lineBelow (entryTo 7 0 1 (limitWith 8)))
     -- 19: out of range on both sides, and -0
-    ∷ poolUnfiled (line (rowTo (limitWith 8))) 2
-    ∷ poolUnfiled (lineBelow (rowTo (limitWith 9))) 2
-    ∷ poolUnfiled (lineBelow (rowTo (digit 0))) 2
-    ∷ ruleUnfiled (line (entryTo 7 0 1 (limitWith 8))) 2
-    -- 19: a sign where none may stand: a variable's number, a name, c of an unknown kind. The line before does not matter.
+    ∷ poolUnfiled (line (rowTo (limitWith 8)) ++ shortLine) 2
+    ∷ poolUnfiled (lineBelow (rowTo (limitWith 9)) ++ shortLine) 2
+    ∷ poolUnfiled (lineBelow (rowTo (digit 0)) ++ shortLine) 2
+    ∷ ruleUnfiled (line (entryTo 7 0 1 (limitWith 8)) ++ shortLine) 2
+    -- 19: a sign where none may stand: a variable's number, a name, c of b = 2 and of an unknown kind, a row's name
+    ∷ ruleUnfiled (lineBelow (entryTo 7 0 0 (digit 5)) ++ shortLine) 2
+    ∷ ruleUnfiled (lineBelow (entryTo 5 1 1 (digit 5)) ++ shortLine) 2
+    ∷ ruleUnfiled (lineBelow (entryTo 7 0 2 (digit 5)) ++ shortLine) 2
+    ∷ ruleUnfiled (lineBelow ((1 ∷ 0 ∷ []) ∷ digit 0 ∷ digit 1 ∷ digit 5 ∷ []) ++ shortLine) 2
+    ∷ poolUnfiled
+    (textThen 32 (digit 1) ++ textThen 32 (digit 1) ++ textThen 32 (digit 0) ++ textThen 32 (digit 0) ++ 45 ∷ textThen 32 (digit 1)
+    ++ textThen 10 (digit 5) ++ shortLine) 2
+    -- there a number may be any word; and the line before does not matter
+    ∷ ruleUnfiled (line (entryTo 7 0 0 (limitWith 8)) ++ shortLine) 3
     ∷ ruleUnfiled (lineBelow (entryTo 7 0 1 (digit 5)) ++ lineBelow (entryTo 7 0 0 (digit 5))) 3
-    ∷ ruleUnfiled (lineBelow (entryTo 7 0 1 (digit 5)) ++ lineBelow (entryTo 5 1 1 (digit 5))) 3
-    ∷ ruleUnfiled (line (entryTo 5 1 0 (digit 1)) ++ lineBelow ((1 ∷ 0 ∷ []) ∷ digit 0 ∷ digit 1 ∷ digit 5 ∷ [])) 3
-    ∷ poolUnfiled (lineBelow (digit 1 ∷ digit 1 ∷ digit 0 ∷ digit 0 ∷ digit 1 ∷ [])) 2
     -- (j)
     ∷ tableChecked (D1 ++ row 1 4 1 1 2 2) (Refused 12 3)
     -- deep is wrong: 1 at a root; the parent's own; two more than the parent's; so large that one more would wrap

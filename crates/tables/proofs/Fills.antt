@@ -11,10 +11,15 @@ use lib.Dec.{ltb}
 use borrow.Author.Tests.{ltb-true, ltb-false, lt-ltb, le-ltb}
 use Rattle.base.proofs.Bools.{either}
 use Rattle.tables.specs.declared.reading.Scan.{Scan}
+use Rattle.tables.specs.declared.reading.Number.{Number}
 use Rattle.tables.specs.Files.{Format, wordRead, stepOf, wordsFrom, atStart}
-use Rattle.tables.specs.Scans.{numberAt, putOf}
+use Rattle.tables.specs.Scans.{putOf}
 use Rattle.tables.proofs.Steps.{Counted, step-counted}
 use Rattle.tables.proofs.Scans.{Scanning, scan-begin, scan-more}
+
+-- the number of a state
+abbrev pub numberAt : Scan → Number
+numberAt s = record { minus = s .minus; value = s .value; place = s .count }
 
 pub record Filling (f : Format) (bs out₀ : List ℕ) (s : Scan) (out : List ℕ) (i : ℕ) : Type 0 where
   pub scan : Scanning f bs s i

@@ -16,7 +16,7 @@ use Rattle.base.proofs.Lists.{length-select}
 use Rattle.base.proofs.Counts.{Counted, count-hit, count-miss}
 use Rattle.powers.specs.Powers.{wordDigits, powerAt}
 use Rattle.powers.proofs.Powers.{power-is}
-use Rattle.tables.specs.Values.{valueLimit, isBelow, opposite}
+use Rattle.tables.specs.Values.{valueLimit, isBelowZero, opposite}
 use Rattle.tables.specs.Files.{Format, byteAfter, nextColumn, toldNext, maySign, numberText, wordText, textFrom, linesText}
 use Rattle.tables.specs.Scans.{plainLength, countFrom}
 use Rattle.tables.proofs.Digits.{text-le, text-pos, digits-many, narrow-below}
@@ -114,8 +114,8 @@ record Signed (signed : Bool) (w : ℕ) : Type 0 where
 
 signed-bytes : (signed : Bool) (w : ℕ) → Signed signed w
 unfolding wordText
-signed-bytes signed w = either (signed && isBelow w)
-    (λ e. let l : valueLimit < w = ltb-true valueLimit w (and-right signed (isBelow w) e) in
+signed-bytes signed w = either (signed && isBelowZero w)
+    (λ e. let l : valueLimit < w = ltb-true valueLimit w (and-right signed (isBelowZero w) e) in
     let b : leb 2147483648 w ≡ true = le-leb 2147483648 w (omega arith) in
     let many : 9 < length (numberText w) = digits-many 10 9 w (omega arith) (omega arith) in
     record {
@@ -128,10 +128,10 @@ signed-bytes signed w = either (signed && isBelow w)
 module _ (f : Format) where
   -- a word's bytes, the byte after it, and the rest
   pub text-length : (c : ℕ) (told : Bool) (w : ℕ) (ws : List ℕ)
-      → length (textFrom f c told (w ∷ ws)) ≡ length (wordText (maySign f c told) w) + 1 + length (textFrom f (nextColumn (f .columns) c) (toldNext f c w told) ws)
+      → length (textFrom f c told (w ∷ ws)) ≡ length (wordText (maySign (f .columns) c told) w) + 1 + length (textFrom f (nextColumn (f .columns) c) (toldNext f c w told) ws)
   unfolding textFrom
   text-length c told w ws =
-      length-append (wordText (maySign f c told) w) (byteAfter (f .columns) c ∷ textFrom f (nextColumn (f .columns) c) (toldNext f c w told) ws) ∙ omega arith
+      length-append (wordText (maySign (f .columns) c told) w) (byteAfter (f .columns) c ∷ textFrom f (nextColumn (f .columns) c) (toldNext f c w told) ws) ∙ omega arith
 
   text-most : (c : ℕ) (told : Bool) (ws : List ℕ) → length (textFrom f c told ws) ≤ plainLength ws + countFrom 2147483648 ws
   unfolding textFrom plainLength
@@ -140,7 +140,7 @@ module _ (f : Format) where
       omega (
         arith,
         text-length c told w ws,
-        signed-bytes (maySign f c told) w .most,
+        signed-bytes (maySign (f .columns) c told) w .most,
         count-cons 2147483648 w ws,
         text-most (nextColumn (f .columns) c) (toldNext f c w told) ws,
       )
@@ -152,7 +152,7 @@ module _ (f : Format) where
       omega (
         arith,
         text-length c told w ws,
-        signed-bytes (maySign f c told) w .least,
+        signed-bytes (maySign (f .columns) c told) w .least,
         count-cons 2147483648 w ws,
         text-least (nextColumn (f .columns) c) (toldNext f c w told) ws,
       )
@@ -162,7 +162,7 @@ module _ (f : Format) where
   unfolding textFrom
   text-two c told [] = omega arith
   text-two c told (w ∷ ws) =
-      omega (arith, text-length c told w ws, signed-bytes (maySign f c told) w .pos, text-two (nextColumn (f .columns) c) (toldNext f c w told) ws)
+      omega (arith, text-length c told w ws, signed-bytes (maySign (f .columns) c told) w .pos, text-two (nextColumn (f .columns) c) (toldNext f c w told) ws)
 
   -- ---- whether the text fits, from the words that may have a sign
   module _ (ws : List ℕ) (room below : ℕ) (e : below ≡ countFrom 2147483648 ws) where
@@ -188,20 +188,20 @@ pub record Fitting (f : Format) (ws : List ℕ) (room left c : ℕ) (told : Bool
 -- the text from the word i on
 pub next-text : (f : Format) (ws : List ℕ) (c : ℕ) (told : Bool) (i : ℕ) → i < length ws
     → textFrom f c told (drop i ws)
-    ≡ wordText (maySign f c told) (getD ws i 0) ++ (byteAfter (f .columns) c ∷ textFrom f (nextColumn (f .columns) c) (toldNext f c (getD ws i 0) told) (drop (i + 1) ws))
+    ≡ wordText (maySign (f .columns) c told) (getD ws i 0) ++ (byteAfter (f .columns) c ∷ textFrom f (nextColumn (f .columns) c) (toldNext f c (getD ws i 0) told) (drop (i + 1) ws))
 unfolding textFrom
 next-text f ws c told i h = rw (add-one i, drop-cons ws i 0 h)
 
 pub next-length : (f : Format) (ws : List ℕ) (c : ℕ) (told : Bool) (i : ℕ) → i < length ws
     → length (textFrom f c told (drop i ws))
-    ≡ length (wordText (maySign f c told) (getD ws i 0)) + 1 + length (textFrom f (nextColumn (f .columns) c) (toldNext f c (getD ws i 0) told) (drop (i + 1) ws))
+    ≡ length (wordText (maySign (f .columns) c told) (getD ws i 0)) + 1 + length (textFrom f (nextColumn (f .columns) c) (toldNext f c (getD ws i 0) told) (drop (i + 1) ws))
 next-length f ws c told i h = ap (λ (l : List ℕ). length (textFrom f c told l)) (drop-cons ws i 0 h) ∙ text-length f c told (getD ws i 0) (drop (suc i) ws) ∙ rw (add-one i)
 
 module _ (f : Format) (ws : List ℕ) (room : ℕ) where
   pub fit-begin : 0 < f .columns → Fitting f ws room room 0 false 0
   fit-begin h = record { within = omega arith; column = h; rest = refl }
 
-  module _ (left c : ℕ) (told : Bool) (i n : ℕ) (t : Fitting f ws room left c told i) (h : i < length ws) (e : n ≡ length (wordText (maySign f c told) (getD ws i 0)) + 1) where
+  module _ (left c : ℕ) (told : Bool) (i n : ℕ) (t : Fitting f ws room left c told i) (h : i < length ws) (e : n ≡ length (wordText (maySign (f .columns) c told) (getD ws i 0)) + 1) where
     pub fit-short : left < n → false ≡ leb (length (linesText f ws)) room
     fit-short l = sym (lt-leb (length (linesText f ws)) room (omega (arith, t .rest, next-length f ws c told i h)))
 

@@ -13,7 +13,7 @@ use Rattle.tables.specs.declared.Answer.{Answer}
 use Rattle.tables.specs.declared.Answer.the-variants.{Done, Refused}
 use Rattle.tables.specs.declared.reading.Scan.{Scan}
 use Rattle.tables.specs.Files.{Format, scanAll, wordsFrom, atStart, startsWith, atLine, checkFile, readAnswer, readWords, readOut}
-use Rattle.tables.specs.Scans.{firstNumber, numbersFrom, Fillable}
+use Rattle.tables.specs.Scans.{firstNumber, storedFrom, Fillable}
 use Rattle.tables.proofs.Steps.{count-words}
 use Rattle.tables.proofs.Stores.{fillable-words}
 
@@ -60,18 +60,18 @@ module _ (names file out : List ℕ) (f : Format) where
 
     pub fillable : atLine s ≡ true → 0 < f .columns → s .count ≤ length out → Fillable (tail (length names) file) out
     fillable q pos l = record {
-      format = f;
+      read-as = f;
       some-columns = pos;
-      passes = rw e at q;
+      good-lines = rw e at q;
       room = omega (arith, ap (λ (z : Scan). z .count) e, count-words f atStart (tail (length names) file));
     }
 
     pub accept : (out′ : List ℕ) → atLine s ≡ true → 0 < f .columns → s .count ≤ length out
-        → out′ ≡ numbersFrom firstNumber (tail (length names) file) ++ drop (length (numbersFrom firstNumber (tail (length names) file))) out
+        → out′ ≡ storedFrom firstNumber (tail (length names) file) ++ drop (length (storedFrom firstNumber (tail (length names) file))) out
         → Answered names file f out (Done (s .count)) out′
     unfolding readAnswer readOut readWords checkFile fillable
     accept out′ q pos l w =
         let a : readAnswer names f file (length out) ≡ Done (s .count) = rw (st, scanned, q, counted, le-leb _ _ l) in
-        let same : numbersFrom firstNumber (tail (length names) file) ≡ wordsFrom f atStart (tail (length names) file)
+        let same : storedFrom firstNumber (tail (length names) file) ≡ wordsFrom f atStart (tail (length names) file)
         = fillable-words (tail (length names) file) out (fillable q pos l) in
         (sym a, w ∙ rw (same, tail-is file (length names), a))

@@ -13,7 +13,7 @@ use Rattle.base.proofs.Bools.{either}
 use Rattle.tables.specs.declared.reading.Scan.{Scan}
 use Rattle.tables.specs.Answers.{isDone}
 use Rattle.tables.specs.Words.{wordLimit, AllWords, whole}
-use Rattle.tables.specs.Values.{valueLimit, isBelow, opposite}
+use Rattle.tables.specs.Values.{valueLimit, isBelowZero, opposite}
 use Rattle.tables.specs.Files.{Format, isLast, byteAfter, nextColumn, toldNext, maySign, digitByte, minusByte, digitOf, withDigit, isWithin, digitsUpTo, numberText, wordText, textFrom, linesText, writeText, afterMinus, inNumber, wordRead, pastNumber, digitStep, otherStep, stepOf, atStart, scanAll, wordsFrom, startsWith, lines, readWords, checkFile}
 use Rattle.tables.proofs.Steps.{inLimits, digit-of, after-digit, count-words, next-lt, loud}
 
@@ -22,7 +22,7 @@ unfolding scanAll
 scan-append f s [] b = refl
 scan-append f s (x ∷ a) b = scan-append f (stepOf f s x) a b
 
-words-append : (f : Format) (s : Scan) (a b : List ℕ) → wordsFrom f s (a ++ b) ≡ wordsFrom f s a ++ wordsFrom f (scanAll f s a) b
+pub words-append : (f : Format) (s : Scan) (a b : List ℕ) → wordsFrom f s (a ++ b) ≡ wordsFrom f s a ++ wordsFrom f (scanAll f s a) b
 unfolding scanAll wordsFrom
 words-append f s [] b = refl
 words-append f s (x ∷ a) b = go (words-append f (stepOf f s x) a b) (ltb (s .count) (stepOf f s x .count))
@@ -96,7 +96,7 @@ record Reads (f : Format) (s : Scan) (w : ℕ) (t : List ℕ) : Type 0 where
 
 module _ (f : Format) (s : Scan) (w : ℕ) (r : Ready s) (m : w ≤ wordLimit) where
   abbrev signed : Bool
-  signed = maySign f (s .column) (s .told)
+  signed = maySign (f .columns) (s .column) (s .told)
 
   reads-plain : (isWithin signed false w ≡ true) → Reads f s w (numberText w)
   reads-plain e =
@@ -110,7 +110,7 @@ module _ (f : Format) (s : Scan) (w : ℕ) (r : Ready s) (m : w ≤ wordLimit) w
         word = word;
       }
 
-  reads-below : signed ≡ true → isBelow w ≡ true → Reads f s w (minusByte ∷ numberText (opposite w))
+  reads-below : signed ≡ true → isBelowZero w ≡ true → Reads f s w (minusByte ∷ numberText (opposite w))
   unfolding scanAll
   reads-below e b =
       let h : valueLimit < w = ltb-true valueLimit w b in
@@ -128,7 +128,7 @@ module _ (f : Format) (s : Scan) (w : ℕ) (r : Ready s) (m : w ≤ wordLimit) w
   reads : Reads f s w (wordText signed w)
   unfolding wordText
   reads = either signed
-      (λ e. either (isBelow w)
+      (λ e. either (isBelowZero w)
       (λ b. rw (e, b) (reads-below e b))
       (λ b. rw (e, b) (reads-plain (rw (e, le-leb w valueLimit (ltb-false valueLimit w b))))))
       (λ e. rw e (reads-plain (rw e)))

@@ -16,14 +16,14 @@ use Rattle.tables.specs.Scans.{Sound, IsWord}
 
 -- the number read is within the limits of its column
 abbrev pub inLimits : Format → Scan → Bool
-inLimits f s = isWithin (maySign f (s .column) (s .told)) (s .minus) (s .value)
+inLimits f s = isWithin (maySign (f .columns) (s .column) (s .told)) (s .minus) (s .value)
 
 pub data View (f : Format) (s : Scan) (b : ℕ) : Scan → Type 0 where
   begins : (d : ℕ) → d < 10 → b ≡ digitByte d → s .phase < 2 → View f s b (inNumber s d)
   grows : (d : ℕ) → d < 10 → b ≡ digitByte d → s .phase ≡ 2 → 0 < s .value → withDigit (s .value) d ≤ wordLimit
       → View f s b (inNumber s (withDigit (s .value) d))
   ends : s .phase ≡ 2 → b ≡ byteAfter (f .columns) (s .column) → inLimits f s ≡ true → View f s b (pastNumber f s)
-  signs : s .phase ≡ 0 → b ≡ minusByte → View f s b (afterMinus s)
+  takes-sign : s .phase ≡ 0 → b ≡ minusByte → View f s b (afterMinus s)
   stops : View f s b (atFault s)
 
 digit-byte : (b : ℕ) → digitOf b < 10 → b ≡ digitByte (digitOf b)
@@ -71,11 +71,11 @@ view f s b = either (ltb (digitOf b) 10) digit other
     isAfter = eqb b (byteAfter (f .columns) (s .column))
 
     other : ltb (digitOf b) 10 ≡ false → View f s b (stepOf f s b)
-    other e = either (mayEnd f s b)
+    other e = either (mayEnd (f .columns) s b)
         (λ q. let h : (inDigits && isAfter) ≡ true = and-left (inDigits && isAfter) (inLimits f s) q in
         rw (e, q) (ends (eqb-true _ _ (and-left inDigits isAfter h)) (eqb-true _ _ (and-right inDigits isAfter h)) (and-right (inDigits && isAfter) (inLimits f s) q)))
         (λ q. either (eqb (s .phase) 0 && eqb b minusByte)
-        (λ p. rw (e, q, p) (signs (eqb-true _ _ (and-left (eqb (s .phase) 0) (eqb b minusByte) p)) (eqb-true _ _ (and-right (eqb (s .phase) 0) (eqb b minusByte) p))))
+        (λ p. rw (e, q, p) (takes-sign (eqb-true _ _ (and-left (eqb (s .phase) 0) (eqb b minusByte) p)) (eqb-true _ _ (and-right (eqb (s .phase) 0) (eqb b minusByte) p))))
         (λ p. rw (e, q, p) stops))
 
 -- the numbers that have ended stay or are one more; the line stays or is the next
@@ -92,7 +92,7 @@ counted {f} {s} (ends p e w) = record { ge = omega arith; le = omega arith; line
     next : (t : Bool) → cond t (s .line + 1) (s .line) ≤ s .line + 1
     next true = omega arith
     next false = omega arith
-counted (signs p e) = record { ge = omega arith; le = omega arith; line-le = omega arith }
+counted (takes-sign p e) = record { ge = omega arith; le = omega arith; line-le = omega arith }
 counted stops = record { ge = omega arith; le = omega arith; line-le = omega arith }
 
 pub step-counted : (f : Format) (s : Scan) (b : ℕ) → Counted s (stepOf f s b)
@@ -107,7 +107,7 @@ sound : {f : Format} {s : Scan} {b : ℕ} {r : Scan} → View f s b r → Sound 
 sound (begins d h e p) t = record { column-lt = t .column-lt; value-le = omega arith; none-yet = λ l. absurd (omega arith) }
 sound (grows d h e p v m) t = record { column-lt = t .column-lt; value-le = m; none-yet = λ l. absurd (omega arith) }
 sound {f} {s} (ends p e w) t = record { column-lt = next-lt (f .columns) (s .column) (t .column-lt); value-le = omega arith; none-yet = λ l. refl }
-sound (signs p e) t = record { column-lt = t .column-lt; value-le = t .value-le; none-yet = λ l. t .none-yet (omega arith) }
+sound (takes-sign p e) t = record { column-lt = t .column-lt; value-le = t .value-le; none-yet = λ l. t .none-yet (omega arith) }
 sound stops t = record { column-lt = t .column-lt; value-le = t .value-le; none-yet = λ l. absurd (omega arith) }
 
 pub step-sound : (f : Format) (s : Scan) (b : ℕ) → Sound f s → Sound f (stepOf f s b)
@@ -122,10 +122,10 @@ within-word false true v e h = let z : _≡_ {A = ℕ} 0 1 = cc in absurd (omega
 limits-word : (f : Format) (s : Scan) → Sound f s → inLimits f s ≡ true → IsWord (s .minus) (s .value)
 limits-word f s t e = record {
   size-le = t .value-le;
-  word-le = within-word (maySign f (s .column) (s .told)) (s .minus) (s .value) e (t .value-le);
+  word-le = within-word (maySign (f .columns) (s .column) (s .told)) (s .minus) (s .value) e (t .value-le);
 }
 
-pub end-word : (f : Format) (s : Scan) (b : ℕ) → Sound f s → mayEnd f s b ≡ true → IsWord (s .minus) (s .value)
+pub end-word : (f : Format) (s : Scan) (b : ℕ) → Sound f s → mayEnd (f .columns) s b ≡ true → IsWord (s .minus) (s .value)
 end-word f s b t e = limits-word f s t (and-right (eqb (s .phase) 2 && eqb b (byteAfter (f .columns) (s .column))) (inLimits f s) e)
 
 pub ended-word : (f : Format) (s r : Scan) (b : ℕ) → Sound f s → r ≡ stepOf f s b → s .count < r .count → IsWord (s .minus) (s .value)
@@ -135,7 +135,7 @@ ended-word f s r b t e l = go (view f s b) (rw e at l)
     go (begins d h e p) l = absurd (omega arith)
     go (grows d h e p v m) l = absurd (omega arith)
     go (ends p e w) l = limits-word f s t w
-    go (signs p e) l = absurd (omega arith)
+    go (takes-sign p e) l = absurd (omega arith)
     go stops l = absurd (omega arith)
 
 pub minus-fits : (minus : Bool) (v : ℕ) → minus ≡ true → IsWord minus v → 4294967296 - v ≤ wordLimit

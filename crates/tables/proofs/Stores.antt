@@ -15,10 +15,10 @@ use Rattle.tables.specs.declared.reading.Scan.{Scan}
 use Rattle.tables.specs.declared.reading.Number.{Number}
 use Rattle.tables.specs.Words.{wordLimit}
 use Rattle.tables.specs.Files.{Format, minusByte, digitOf, wordRead, stepOf, atStart, scanAll, wordsFrom}
-use Rattle.tables.specs.Scans.{Sound, numberAt, firstNumber, IsWord, numberAfter, numbersFrom, putOf, Fillable}
-use Rattle.tables.proofs.Steps.{View, begins, grows, ends, signs, stops, view, digit-of, after-digit, after-minus, fault-stays, step-sound, ended-word}
+use Rattle.tables.specs.Scans.{Sound, firstNumber, IsWord, numberAfter, storedFrom, putOf, Fillable}
+use Rattle.tables.proofs.Steps.{View, begins, grows, ends, takes-sign, stops, view, digit-of, after-digit, after-minus, fault-stays, step-sound, ended-word}
 use Rattle.tables.proofs.Scans.{scan-begin}
-use Rattle.tables.proofs.Fills.{Filling, fill-begin, fill-room, fill-more, fill-end}
+use Rattle.tables.proofs.Fills.{numberAt, Filling, fill-begin, fill-room, fill-more, fill-end}
 
 minus-digit : digitOf minusByte ≡ 10
 unfolding digitOf
@@ -31,27 +31,27 @@ agrees f s b bs r (begins d h e p) t q =
     rw (e, digit-of d h, lt-ltb d 10 h) (ap (λ (v : ℕ). record { minus = s .minus; value = v; place = s .count }) (omega (arith, t .none-yet p)))
 agrees f s b bs r (grows d h e p v m) t q = rw (e, digit-of d h, lt-ltb d 10 h)
 agrees f s b bs r (ends p e w) t q = rw (e, after-digit (f .columns) (s .column), after-minus (f .columns) (s .column))
-agrees f s b bs r (signs p e) t q = rw (e, minus-digit)
+agrees f s b bs r (takes-sign p e) t q = rw (e, minus-digit)
 agrees f s b bs r stops t q = absurd (omega (arith, ap (λ (z : Scan). z .phase) (fault-stays f s bs)))
 
 -- the words are those of the states
-numbers-are : (f : Format) (s : Scan) (bs : List ℕ) → Sound f s → scanAll f s bs .phase ≡ 0 → numbersFrom (numberAt s) bs ≡ wordsFrom f s bs
-unfolding scanAll wordsFrom numbersFrom
+numbers-are : (f : Format) (s : Scan) (bs : List ℕ) → Sound f s → scanAll f s bs .phase ≡ 0 → storedFrom (numberAt s) bs ≡ wordsFrom f s bs
+unfolding scanAll wordsFrom storedFrom
 numbers-are f s [] t q = refl
 numbers-are f s (b ∷ bs) t q =
-    ap (λ (z : Number). cond (ltb (s .count) (z .place)) (wordRead s ∷ numbersFrom z bs) (numbersFrom z bs)) (agrees f s b bs (stepOf f s b) (view f s b) t q)
+    ap (λ (z : Number). cond (ltb (s .count) (z .place)) (wordRead s ∷ storedFrom z bs) (storedFrom z bs)) (agrees f s b bs (stepOf f s b) (view f s b) t q)
     ∙ ap (λ (l : List ℕ). cond (ltb (s .count) (stepOf f s b .count)) (wordRead s ∷ l) l) (numbers-are f (stepOf f s b) bs (step-sound f s b t) q)
 
-ends-well : (bs out : List ℕ) (can : Fillable bs out) → scanAll (can .format) atStart bs .phase ≡ 0
+ends-well : (bs out : List ℕ) (can : Fillable bs out) → scanAll (can .read-as) atStart bs .phase ≡ 0
 ends-well bs out can =
-    let r : Scan = scanAll (can .format) atStart bs in
-    eqb-true (r .phase) 0 (and-left (eqb (r .phase) 0) (eqb (r .column) 0) (can .passes))
+    let r : Scan = scanAll (can .read-as) atStart bs in
+    eqb-true (r .phase) 0 (and-left (eqb (r .phase) 0) (eqb (r .column) 0) (can .good-lines))
 
 -- the output holds the words of the states passed, of which n is the last one's number
 pub record Storing (bs out₀ : List ℕ) (n : Number) (out : List ℕ) (i : ℕ) : Type 0 where
   pub can : Fillable bs out₀
   pub state : Scan
-  pub filling : Filling (can .format) bs out₀ state out i
+  pub filling : Filling (can .read-as) bs out₀ state out i
   pub same : n ≡ numberAt state
 
 module _ (bs out₀ : List ℕ) where
@@ -59,17 +59,17 @@ module _ (bs out₀ : List ℕ) where
   store-begin can = record {
     can = can;
     state = atStart;
-    filling = fill-begin (can .format) bs out₀ (can .room) atStart refl (can .some-columns);
+    filling = fill-begin (can .read-as) bs out₀ (can .room) atStart refl (can .some-columns);
     same = refl;
   }
 
   -- the words are those of the states
-  pub fillable-words : (can : Fillable bs out₀) → numbersFrom firstNumber bs ≡ wordsFrom (can .format) atStart bs
-  fillable-words can = numbers-are (can .format) atStart bs (scan-begin (can .format) bs atStart refl (can .some-columns) .sound) (ends-well bs out₀ can)
+  pub fillable-words : (can : Fillable bs out₀) → storedFrom firstNumber bs ≡ wordsFrom (can .read-as) atStart bs
+  fillable-words can = numbers-are (can .read-as) atStart bs (scan-begin (can .read-as) bs atStart refl (can .some-columns) .sound) (ends-well bs out₀ can)
 
   module _ (n : Number) (out : List ℕ) (i : ℕ) (t : Storing bs out₀ n out i) where
     abbrev f : Format
-    f = t .can .format
+    f = t .can .read-as
 
     pub store-length : length out ≡ length out₀
     store-length = t .filling .len
@@ -80,7 +80,7 @@ module _ (bs out₀ : List ℕ) where
     pub store-place : n .place ≤ i
     store-place = rw (t .same) (t .filling .scan .count-le)
 
-    pub store-end : length bs ≤ i → out ≡ numbersFrom firstNumber bs ++ drop (length (numbersFrom firstNumber bs)) out₀
+    pub store-end : length bs ≤ i → out ≡ storedFrom firstNumber bs ++ drop (length (storedFrom firstNumber bs)) out₀
     store-end h = rw (fillable-words (t .can)) (fill-end f bs out₀ (t .can .room) (t .state) out i (t .filling) h)
 
     module _ (r : Number) (h : i < length bs) (d : r ≡ numberAfter n (getD bs i 0)) where

@@ -55,6 +55,8 @@ table-lines t ok = table-whole t (unless-ok (tableLength t) 8 (inOrder (rowFault
 
 pub round-trips : RoundTrips
 round-trips = record {
+  tables = tables-return;
+  files = files-return;
   rules = tables-return ruleNames ruleFormat checkRule (omega arith) rule-lines;
   rule-files = files-return ruleNames ruleFormat checkRule;
   pools = tables-return poolNames poolFormat checkTable (omega arith) table-lines;

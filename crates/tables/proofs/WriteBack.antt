@@ -12,10 +12,10 @@ use Rattle.base.proofs.Bools.{and-left, and-right, either}
 use Rattle.tables.specs.declared.reading.Scan.{Scan}
 use Rattle.tables.specs.Answers.{isDone}
 use Rattle.tables.specs.Words.{wordLimit}
-use Rattle.tables.specs.Values.{valueLimit, isBelow, opposite}
+use Rattle.tables.specs.Values.{valueLimit, isBelowZero, opposite}
 use Rattle.tables.specs.Files.{Format, byteAfter, maySign, digitByte, minusByte, withDigit, isWithin, wordOf, numberText, wordText, textFrom, linesText, writeText, afterMinus, inNumber, wordRead, pastNumber, stepOf, atStart, scanAll, wordsFrom, atLine, startsWith, lines, atEnd, readWords, checkFile}
 use Rattle.tables.proofs.Digits.{text-one, text-grow}
-use Rattle.tables.proofs.Steps.{View, begins, grows, ends, signs, stops, view, fault-stays, quiet, loud}
+use Rattle.tables.proofs.Steps.{View, begins, grows, ends, takes-sign, stops, view, fault-stays, quiet, loud}
 
 -- ---- the text of the number that is being read: its sign, and its digits so far
 sign : Bool → List ℕ
@@ -43,7 +43,7 @@ clean : {f : Format} {s : Scan} {b : ℕ} {r : Scan} → View f s b r → Clean 
 clean (begins d h x p) e = absurd (omega arith)
 clean (grows d h x p v m) e = absurd (omega arith)
 clean (ends p x w) e = refl
-clean (signs p x) e = absurd (omega arith)
+clean (takes-sign p x) e = absurd (omega arith)
 clean stops e = absurd (omega arith)
 
 -- a number within its limits is written with the sign and the digits that it was read with
@@ -55,7 +55,7 @@ text-within false true v e = let z : _≡_ {A = ℕ} 0 1 = cc in absurd (omega a
 text-within true true v e =
     let p : 0 < v = ltb-true 0 v (and-left (ltb 0 v) (leb v (valueLimit + 1)) e) in
     let q : v ≤ valueLimit + 1 = leb-true v (valueLimit + 1) (and-right (ltb 0 v) (leb v (valueLimit + 1)) e) in
-    let b : isBelow (opposite v) ≡ true = lt-ltb valueLimit (opposite v) (omega arith) in
+    let b : isBelowZero (opposite v) ≡ true = lt-ltb valueLimit (opposite v) (omega arith) in
     let o : opposite (opposite v) ≡ v = omega arith in
     rw (b, o)
 
@@ -102,14 +102,14 @@ module _ (f : Format) (s : Scan) (b : ℕ) (bs : List ℕ) where
   unfolding textFrom part
   turn r q (begins d h x p) k e ih = goes-on r q refl (longer-begins s b d h x p) ih
   turn r q (grows d h x p v m) k e ih = goes-on r q refl (longer-grows s b d h x p v m) ih
-  turn r q (signs p x) k e ih = goes-on r q refl (longer-signs s b p (k p) x) ih
+  turn r q (takes-sign p x) k e ih = goes-on r q refl (longer-signs s b p (k p) x) ih
   turn r q (ends p x w) k e ih =
-      let w-is : part s ≡ wordText (maySign f (s .column) (s .told)) (wordRead s)
-      = ap (λ (l : List ℕ). sign (s .minus) ++ l) (digits-some s p) ∙ sym (text-within (maySign f (s .column) (s .told)) (s .minus) (s .value) w) in
-      let b-is : part s ++ (b ∷ bs) ≡ wordText (maySign f (s .column) (s .told)) (wordRead s) ++ (byteAfter (f .columns) (s .column) ∷ bs)
-      = ap (λ (l : List ℕ). l ++ (b ∷ bs)) w-is ∙ ap (λ (n : ℕ). wordText (maySign f (s .column) (s .told)) (wordRead s) ++ (n ∷ bs)) x in
+      let w-is : part s ≡ wordText (maySign (f .columns) (s .column) (s .told)) (wordRead s)
+      = ap (λ (l : List ℕ). sign (s .minus) ++ l) (digits-some s p) ∙ sym (text-within (maySign (f .columns) (s .column) (s .told)) (s .minus) (s .value) w) in
+      let b-is : part s ++ (b ∷ bs) ≡ wordText (maySign (f .columns) (s .column) (s .told)) (wordRead s) ++ (byteAfter (f .columns) (s .column) ∷ bs)
+      = ap (λ (l : List ℕ). l ++ (b ∷ bs)) w-is ∙ ap (λ (n : ℕ). wordText (maySign (f .columns) (s .column) (s .told)) (wordRead s) ++ (n ∷ bs)) x in
       b-is
-      ∙ ap (λ (l : List ℕ). wordText (maySign f (s .column) (s .told)) (wordRead s) ++ (byteAfter (f .columns) (s .column) ∷ l))
+      ∙ ap (λ (l : List ℕ). wordText (maySign (f .columns) (s .column) (s .told)) (wordRead s) ++ (byteAfter (f .columns) (s .column) ∷ l))
       (sym (ap (λ (l : List ℕ). l ++ bs) (part-past f s)) ∙ ih)
       ∙ ap (textFrom f (s .column) (s .told)) (sym (loud f s (pastNumber f s) b bs q refl))
   turn r q stops k e ih = absurd (omega (arith, ap (λ (z : Scan). z .phase) (fault-stays f s bs)))

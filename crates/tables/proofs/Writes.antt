@@ -10,7 +10,7 @@ use lib.ListN.{length, getD, drop, set, length-set, drop-of-length-le}
 use lib.Seq.{sets, length-sets}
 use borrow.Author.Tests.{ltb-true}
 use Rattle.base.proofs.Bools.{and-right}
-use Rattle.tables.specs.Values.{valueLimit, isBelow, opposite}
+use Rattle.tables.specs.Values.{valueLimit, isBelowZero, opposite}
 use Rattle.tables.specs.Files.{Format, byteAfter, nextColumn, toldNext, maySign, minusByte, numberText, wordText, textFrom, linesText}
 use Rattle.tables.proofs.Measures.{next-text, next-length}
 
@@ -21,9 +21,9 @@ sets-append l i (x ∷ a) b = sets-append (set l i x) (suc i) a b ∙ ap (λ (n 
 
 -- ---- one word: with its sign, or without
 module _ (signed : Bool) (w : ℕ) where
-  module _ (below : (signed && isBelow w) ≡ true) where
+  module _ (below : (signed && isBelowZero w) ≡ true) where
     pub sign-below : valueLimit < w
-    sign-below = ltb-true valueLimit w (and-right signed (isBelow w) below)
+    sign-below = ltb-true valueLimit w (and-right signed (isBelowZero w) below)
 
     pub sign-text : wordText signed w ≡ minusByte ∷ numberText (opposite w)
     unfolding wordText
@@ -35,7 +35,7 @@ module _ (signed : Bool) (w : ℕ) where
     pub sign-put : (out : List ℕ) (at n : ℕ) → n ≡ opposite w → sets (set out at minusByte) (at + 1) (numberText n) ≡ sets out at (wordText signed w)
     sign-put out at n e = rw (e, sign-text, add-one at)
 
-  pub plain-text : (signed && isBelow w) ≡ false → wordText signed w ≡ numberText w
+  pub plain-text : (signed && isBelowZero w) ≡ false → wordText signed w ≡ numberText w
   unfolding wordText
   plain-text e = rw e
 
@@ -52,7 +52,7 @@ module _ (f : Format) (ws out₀ : List ℕ) (at : ℕ) where
   put-begin h = record { within = omega arith; column = h; len = refl; place = refl; rest = refl }
 
   module _ (out : List ℕ) (p c : ℕ) (told : Bool) (i : ℕ) (t : Putting f ws out₀ at out p c told i) (h : i < length ws)
-      (signed : Bool) (es : signed ≡ maySign f c told) where
+      (signed : Bool) (es : signed ≡ maySign (f .columns) c told) where
     abbrev text : List ℕ
     text = wordText signed (getD ws i 0)
 

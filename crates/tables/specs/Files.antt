@@ -8,7 +8,7 @@ use lib.ListN.{length, drop}
 use lib.Dec.{ltb, leb, eqb}
 use Rattle.tables.specs.Answers.{isDone, andThen, fitting, output}
 use Rattle.tables.specs.Words.{wordLimit, entryWords, rowWords}
-use Rattle.tables.specs.Values.{valueLimit, isBelow, opposite}
+use Rattle.tables.specs.Values.{valueLimit, isBelowZero, opposite}
 use Rattle.tables.specs.Rules.{comparisonKind, checkRule}
 use Rattle.tables.specs.Tables.{checkTable}
 use Rattle.tables.specs.declared.Answer.{Answer}
@@ -37,19 +37,19 @@ abbrev pub refusalNames : List ℕ
 refusalNames = 114 ∷ 101 ∷ 102 ∷ 117 ∷ 115 ∷ 101 ∷ 100 ∷ 32 ∷ 112 ∷ 108 ∷ 97 ∷ 99 ∷ 101 ∷ 10 ∷ []
 
 -- ---- the format of a line of values: how many columns it has, and whether its last number may have a sign. That is told by the numbers
--- before it: `signs c w told` once w stands in column c, where `told` is what those before it told, and false before the first.
+-- before it: `tells c w told` once w stands in column c, where `told` is what those before it told, and false before the first.
 pub record Format : Type 0 where
   pub columns : ℕ
-  pub signs : ℕ → ℕ → Bool → Bool
+  pub tells : ℕ → ℕ → Bool → Bool
 
 -- the value column of a pool file; c of a rule file, where a comparison has b = 1; none of the program's text
-abbrev pub signsOf : Signs → ℕ → ℕ → Bool → Bool
-signsOf Values c w told = true
-signsOf Constants c w told = cond (eqb c 0) (comparisonKind w) (cond (eqb c 2) (told && eqb w 1) told)
-signsOf Nowhere c w told = false
+abbrev pub tellsOf : Signs → ℕ → ℕ → Bool → Bool
+tellsOf Values c w told = true
+tellsOf Constants c w told = cond (eqb c 0) (comparisonKind w) (cond (eqb c 2) (told && eqb w 1) told)
+tellsOf Nowhere c w told = false
 
 abbrev pub format : ℕ → Signs → Format
-format k signs = record { columns = k; signs = signsOf signs }
+format k signs = record { columns = k; tells = tellsOf signs }
 
 -- column c is the last of k
 abbrev pub isLast : ℕ → ℕ → Bool
@@ -65,11 +65,11 @@ nextColumn k c = cond (isLast k c) 0 (c + 1)
 
 -- what the next number is told; each line starts anew
 abbrev pub toldNext : Format → ℕ → ℕ → Bool → Bool
-toldNext f c w told = cond (isLast (f .columns) c) false (f .signs c w told)
+toldNext f c w told = cond (isLast (f .columns) c) false (f .tells c w told)
 
 -- the number in column c may have a sign
-abbrev pub maySign : Format → ℕ → Bool → Bool
-maySign f c told = isLast (f .columns) c && told
+abbrev pub maySign : ℕ → ℕ → Bool → Bool
+maySign k c told = isLast k c && told
 
 -- ---- numbers
 -- the byte of a digit
@@ -92,7 +92,8 @@ withDigit v d = 10 * v + d
 abbrev pub mayGrow : ℕ → ℕ → Bool
 mayGrow v d = ltb 0 v && leb (withDigit v d) wordLimit
 
--- the number v, with a minus sign or without, is within its limits: -0 is not, and without a sign it is as it grew
+-- the number v, with a minus sign or without, is within its limits: those of a value where it may have a sign, and -0 is not; elsewhere it
+-- has none, and its digits went no further than the largest word
 abbrev pub isWithin : Bool → Bool → ℕ → Bool
 isWithin signed minus v = cond signed (cond minus (ltb 0 v && leb v (valueLimit + 1)) (leb v valueLimit)) (not minus)
 
@@ -111,13 +112,15 @@ numberText w = digitsUpTo 10 w
 
 -- the text of a word, where it may have a sign or not
 unfoldable pub wordText : Bool → ℕ → List ℕ
-wordText signed w = cond (signed && isBelow w) (minusByte ∷ numberText (opposite w)) (numberText w)
+wordText signed w = cond (signed && isBelowZero w) (minusByte ∷ numberText (opposite w)) (numberText w)
 
 -- ---- the text of a run of words
 -- from column c on, each number with the byte after it
 unfoldable pub textFrom : Format → ℕ → Bool → List ℕ → List ℕ
 textFrom f c told [] = []
-textFrom f c told (w ∷ ws) = wordText (maySign f c told) w ++ (byteAfter (f .columns) c ∷ textFrom f (nextColumn (f .columns) c) (toldNext f c w told) ws)
+textFrom f c told (w ∷ ws) =
+    wordText (maySign (f .columns) c told) w
+    ++ (byteAfter (f .columns) c ∷ textFrom f (nextColumn (f .columns) c) (toldNext f c w told) ws)
 
 -- the lines of values
 abbrev pub linesText : Format → List ℕ → List ℕ
@@ -128,7 +131,8 @@ unfoldable pub writeText : List ℕ → Format → List ℕ → List ℕ
 writeText names f ws = names ++ linesText f ws
 
 -- ---- reading the lines of values, byte by byte. A state has its phase (0 before a number, 1 after its minus sign, 2 in its digits, 3 at
--- fault), whether the number has a minus sign, its value so far, its column and what it is told, its line, and how many numbers have ended.
+-- fault), whether the number has a minus sign, its value so far without that, its column and what it is told, its line, and how many numbers
+-- have ended.
 abbrev pub afterMinus : Scan → Scan
 afterMinus s = record { phase = 1; minus = true; value = s .value; column = s .column; told = s .told; line = s .line; count = s .count }
 
@@ -161,12 +165,12 @@ digitStep s d =
     (cond (eqb (s .phase) 2 && mayGrow (s .value) d) (inNumber s (withDigit (s .value) d)) (atFault s))
 
 -- the byte b ends the number: it is the one after its column, and the number is within its limits
-abbrev pub mayEnd : Format → Scan → ℕ → Bool
-mayEnd f s b = eqb (s .phase) 2 && eqb b (byteAfter (f .columns) (s .column)) && isWithin (maySign f (s .column) (s .told)) (s .minus) (s .value)
+abbrev pub mayEnd : ℕ → Scan → ℕ → Bool
+mayEnd k s b = eqb (s .phase) 2 && eqb b (byteAfter k (s .column)) && isWithin (maySign k (s .column) (s .told)) (s .minus) (s .value)
 
 -- any other byte ends a number, or is the minus sign before its first digit
 unfoldable pub otherStep : Format → Scan → ℕ → Scan
-otherStep f s b = cond (mayEnd f s b) (pastNumber f s) (cond (eqb (s .phase) 0 && eqb b minusByte) (afterMinus s) (atFault s))
+otherStep f s b = cond (mayEnd (f .columns) s b) (pastNumber f s) (cond (eqb (s .phase) 0 && eqb b minusByte) (afterMinus s) (atFault s))
 
 -- the state after a byte
 unfoldable pub stepOf : Format → Scan → ℕ → Scan

@@ -2,8 +2,8 @@
 use Prim.Native.Nat.{ℕ, _+_, _≤_, _<_}
 use mathlib.Core.Path.{_≡_}
 use mathlib.Core.Bool.{Bool, true, false, cond}
-use mathlib.Core.List.{List, [], _∷_}
-use lib.ListN.{length, set}
+use mathlib.Core.List.{List, [], _∷_, _++_}
+use lib.ListN.{length, drop, set}
 use lib.Dec.{ltb, leb, eqb}
 use Rattle.base.specs.Lists.{select}
 use Rattle.tables.specs.Words.{wordLimit}
@@ -18,9 +18,6 @@ pub record Sound (f : Format) (s : Scan) : Type 0 where
   pub none-yet : s .phase < 2 → s .value ≡ 0
 
 -- ---- storing the words of lines that are known to pass: a number's sign, its value so far, and the place of its word
-abbrev pub numberAt : Scan → Number
-numberAt s = record { minus = s .minus; value = s .value; place = s .count }
-
 abbrev pub firstNumber : Number
 firstNumber = record { minus = false; value = 0; place = 0 }
 
@@ -36,11 +33,15 @@ numberAfter n b =
     (cond (eqb b minusByte) (record { minus = true; value = n .value; place = n .place })
     (record { minus = false; value = 0; place = n .place + 1 }))
 
--- the words of the numbers that end in some bytes
-unfoldable pub numbersFrom : Number → List ℕ → List ℕ
-numbersFrom n [] = []
-numbersFrom n (b ∷ bs) =
-    cond (ltb (n .place) (numberAfter n b .place)) (wordOf (n .minus) (n .value) ∷ numbersFrom (numberAfter n b) bs) (numbersFrom (numberAfter n b) bs)
+-- the words that are stored of some bytes of lines that pass
+unfoldable pub storedFrom : Number → List ℕ → List ℕ
+storedFrom n [] = []
+storedFrom n (b ∷ bs) =
+    cond (ltb (n .place) (numberAfter n b .place)) (wordOf (n .minus) (n .value) ∷ storedFrom (numberAfter n b) bs) (storedFrom (numberAfter n b) bs)
+
+-- the output that holds them, and what stood past them
+abbrev pub storedIn : List ℕ → List ℕ → List ℕ
+storedIn bs out = storedFrom firstNumber bs ++ drop (length (storedFrom firstNumber bs)) out
 
 -- the output after a step from n to r: the number that it ended is stored
 unfoldable pub putOf : List ℕ → Number → Number → List ℕ
@@ -48,10 +49,10 @@ putOf out n r = cond (ltb (n .place) (r .place)) (set out (n .place) (wordOf (n 
 
 -- the bytes pass 19 in some format, and their words fit the output
 pub record Fillable (bs out : List ℕ) : Type 0 where
-  pub format : Format
-  pub some-columns : 0 < format .columns
-  pub passes : atLine (scanAll format atStart bs) ≡ true
-  pub room : length (wordsFrom format atStart bs) ≤ length out
+  pub read-as : Format
+  pub some-columns : 0 < read-as .columns
+  pub good-lines : atLine (scanAll read-as atStart bs) ≡ true
+  pub room : length (wordsFrom read-as atStart bs) ≤ length out
 
 -- ---- the length of the text
 -- the bytes that the words take without signs: each its digits and the byte after it

@@ -1,11 +1,11 @@
 -- Accepted tables come back from their files, accepted files byte for byte from their tables. Assumes nothing.
-use Prim.Native.Nat.{ℕ, _≤_}
+use Prim.Native.Nat.{ℕ, _≤_, _<_}
 use mathlib.Core.Path.{_≡_}
 use mathlib.Core.Bool.{true}
 use mathlib.Core.List.{List}
 use lib.ListN.{length, take}
 use Rattle.tables.specs.Answers.{isDone, value}
-use Rattle.tables.specs.Words.{AllWords}
+use Rattle.tables.specs.Words.{AllWords, whole}
 use Rattle.tables.specs.Rules.{checkRule}
 use Rattle.tables.specs.Tables.{checkTable}
 use Rattle.tables.specs.Files.{Format, ruleNames, ruleFormat, poolNames, poolFormat, writeText, readWords, readAnswer, readOut, writeAnswer, writeOut, acceptedFile}
@@ -50,7 +50,11 @@ FilesReturn names f check =
     → length (readWords names f file) ≤ length words → length file ≤ length bytes
     → FileReturns names f check file words bytes
 
+-- for any line of names, any format, and any check that wants whole lines; so for rules and pools
 pub record RoundTrips : Type 0 where
+  pub tables : (names : List ℕ) (f : Format) (check : List ℕ → Answer) → 0 < f .columns
+      → ((ws : List ℕ) → isDone (check ws) ≡ true → whole (f .columns) ws ≡ true) → TablesReturn names f check
+  pub files : (names : List ℕ) (f : Format) (check : List ℕ → Answer) → FilesReturn names f check
   pub rules : TablesReturn ruleNames ruleFormat checkRule
   pub rule-files : FilesReturn ruleNames ruleFormat checkRule
   pub pools : TablesReturn poolNames poolFormat checkTable

@@ -3,7 +3,7 @@ use super::entries::B;
 use super::entries::KIND;
 ghost use mathlib.Core.Path.{_≡_};
 ghost use Prim.Native.Nat.{_<_};
-ghost use Rattle.tables.specs.Files.{byteAfter, nextColumn, signsOf, format, toldNext, maySign};
+ghost use Rattle.tables.specs.Files.{byteAfter, nextColumn, tellsOf, format, toldNext, maySign};
 
 // Which numbers of a file may have a minus sign.
 pub(crate) enum Signs {
@@ -35,16 +35,16 @@ pub(crate) fn next_column(k: usize, c: usize) -> usize
 }
 
 // Whether the number in column c may have a sign.
-pub(crate) fn may_sign(k: usize, signs: Signs, c: usize, told: bool) -> bool
+pub(crate) fn may_sign(k: usize, c: usize, told: bool) -> bool
     requires { ⌜ c < k ⌝ }
-    ensures { λ r. ⌜ r ≡ maySign (format k signs) c told ⌝ }
+    ensures { λ r. ⌜ r ≡ maySign k c told ⌝ }
 {
     (c + 1 == k) & told
 }
 
 // What the number w in column c tells of the last one.
-fn tells(signs: Signs, c: usize, w: u32, told: bool) -> bool
-    ensures { λ r. ⌜ r ≡ signsOf signs c w told ⌝ }
+pub(crate) fn tells(signs: Signs, c: usize, w: u32, told: bool) -> bool
+    ensures { λ r. ⌜ r ≡ tellsOf signs c w told ⌝ }
 {
     match signs {
         Signs::Nowhere => false,

@@ -35,6 +35,7 @@ pub use rows::NAME;
 pub use rows::ROW_WORDS;
 pub use rows::UP;
 pub use rows::VALUE;
+pub use rows::VALUE_LIMIT;
 pub use rows::is_above;
 pub use rows::is_parent;
 pub use rules::ENTRY_LIMIT;

@@ -3,14 +3,15 @@ use super::Answer;
 use super::columns::Signs;
 use super::columns::byte_after;
 use super::columns::may_sign;
-use super::columns::told_next;
+use super::columns::tells;
+use super::rows::VALUE_LIMIT;
 ghost use mathlib.Core.Path.{_≡_};
 ghost use Prim.Native.Nat.{_+_, _≤_, _<_, _^_};
-ghost use mathlib.Core.List.{_++_};
-ghost use lib.ListN.{length, drop};
+ghost use lib.ListN.{length};
 ghost use Rattle.tables.specs.Words.{wordLimit};
-ghost use Rattle.tables.specs.Files.{format, digitOf, isWithin, wordOf, afterMinus, inNumber, atFault, pastNumber, digitStep, mayEnd, otherStep, stepOf, atStart, scanAll, startsWith, readAnswer, readOut};
-ghost use Rattle.tables.specs.Scans.{Sound, IsWord, firstNumber, numberAfter, numbersFrom, putOf, Fillable};
+ghost use Rattle.tables.specs.Files.{format, digitOf, isWithin, wordOf, afterMinus, inNumber, atFault, pastNumber};
+ghost use Rattle.tables.specs.Files.{digitStep, mayEnd, otherStep, stepOf, atStart, scanAll, startsWith, readAnswer, readOut};
+ghost use Rattle.tables.specs.Scans.{Sound, IsWord, numberAfter, storedIn, putOf, Fillable};
 
 // Where reading stands. phase: 0 before a number, 1 after its minus sign, 2 in its digits, 3 at fault.
 pub struct Scan {
@@ -23,7 +24,7 @@ pub struct Scan {
     pub count: usize,
 }
 
-// A number whose words are stored: its sign, its value so far, and the place of its word.
+// A number whose word is to be stored: its sign, its value so far, and the place of the word.
 pub struct Number {
     pub minus: bool,
     pub value: u64,
@@ -61,9 +62,9 @@ fn is_within(signed: bool, minus: bool, v: u64) -> bool
         return !minus;
     }
     if minus {
-        return (0 < v) & (v <= 2147483648);
+        return (0 < v) & (v <= VALUE_LIMIT as u64 + 1);
     }
-    v <= 2147483647
+    v <= VALUE_LIMIT as u64
 }
 
 fn after_minus(s: Scan) -> Scan
@@ -130,7 +131,7 @@ fn past_number(k: usize, signs: Signs, s: Scan) -> Scan
         minus: false,
         value: 0,
         column: s.column + 1,
-        told: told_next(k, signs, s.column, word_of(s.minus, s.value), s.told),
+        told: tells(signs, s.column, word_of(s.minus, s.value), s.told),
         line: s.line,
         count: s.count + 1,
     }
@@ -153,11 +154,11 @@ fn digit_step(s: Scan, d: u64) -> Scan
 }
 
 // Whether the byte b ends the number.
-fn may_end(k: usize, signs: Signs, s: Scan, b: u8) -> bool
+fn may_end(k: usize, s: Scan, b: u8) -> bool
     requires { ⌜ s .column < k ⌝ }
-    ensures { λ r. ⌜ r ≡ mayEnd (format k signs) s b ⌝ }
+    ensures { λ r. ⌜ r ≡ mayEnd k s b ⌝ }
 {
-    let signed = may_sign(k, signs, s.column, s.told);
+    let signed = may_sign(k, s.column, s.told);
     (s.phase == 2) & (b == byte_after(k, s.column)) & is_within(signed, s.minus, s.value)
 }
 
@@ -167,7 +168,7 @@ fn other_step(k: usize, signs: Signs, s: Scan, b: u8) -> Scan
     requires { ⌜ (s .line + 1 < 2 ^ 64) × (s .count + 1 < 2 ^ 64) ⌝ }
     ensures { λ r. ⌜ r ≡ otherStep (format k signs) s b ⌝ }
 {
-    if may_end(k, signs, s, b) {
+    if may_end(k, s, b) {
         return past_number(k, signs, s);
     }
     let signs_it = (s.phase == 0) & (b == b'-');
@@ -278,7 +279,7 @@ fn put(out: &mut [u32], n: Number, r: Number)
 // Stores the words of lines that pass, so that columns and limits need no second look.
 fn fill(bytes: &[u8], out: &mut [u32])
     requires { ⌜ Fillable (now bytes) (now out) ⌝ }
-    ensures { λ _. ⌜ now (out .exit) ≡ numbersFrom firstNumber (now (bytes .entry)) ++ drop (length (numbersFrom firstNumber (now (bytes .entry)))) (now (out .entry)) ⌝ }
+    ensures { λ _. ⌜ now (out .exit) ≡ storedIn (now (bytes .entry)) (now (out .entry)) ⌝ }
 {
     let mut n = Number {
         minus: false,

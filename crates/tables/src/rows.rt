@@ -22,6 +22,9 @@ pub const NAME: usize = 4;
 
 pub const VALUE: usize = 5;
 
+// The largest value: a word above it stands for a number below zero.
+pub const VALUE_LIMIT: u32 = 2147483647;
+
 pub(crate) fn row_at(t: &[u32], i: usize) -> Row
     requires { ⌜ rowWords * i + rowWords ≤ length (now t) ⌝ }
     ensures { λ r. ⌜ r ≡ rowAt (now (t .entry)) i ⌝ }

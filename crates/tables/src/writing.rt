@@ -5,6 +5,7 @@ use super::columns::byte_after;
 use super::columns::may_sign;
 use super::columns::next_column;
 use super::columns::told_next;
+use super::rows::VALUE_LIMIT;
 use powers::WORD_DIGITS;
 use powers::digit_at;
 use powers::power;
@@ -54,7 +55,7 @@ fn put_number(out: &mut [u8], at: usize, w: u32) -> usize
 fn word_width(signed: bool, w: u32) -> usize
     ensures { λ r. ⌜ (r ≡ length (wordText signed w)) × (r ≤ 11) ⌝ }
 {
-    let below = signed & (2147483647 < w);
+    let below = signed & (VALUE_LIMIT < w);
     if below {
         return width((4294967295 - w) + 1) + 1;
     }
@@ -67,7 +68,7 @@ fn put_word(out: &mut [u8], at: usize, signed: bool, w: u32) -> usize
     ensures place { λ r. ⌜ r ≡ at + length (wordText signed w) ⌝ }
     ensures bytes { λ r. ⌜ now (out .exit) ≡ sets (now (out .entry)) at (wordText signed w) ⌝ }
 {
-    let below = signed & (2147483647 < w);
+    let below = signed & (VALUE_LIMIT < w);
     if below {
         out[at] = b'-';
         return put_number(out, at + 1, (4294967295 - w) + 1);
@@ -133,7 +134,7 @@ fn signed_fits(k: usize, signs: Signs, words: &[u32], room: usize) -> bool
     let mut told = false;
     let mut i = 0;
     while i < words.len() {
-        let n = word_width(may_sign(k, signs, c, told), words[i]) + 1;
+        let n = word_width(may_sign(k, c, told), words[i]) + 1;
         if left < n {
             return false;
         }
@@ -145,20 +146,20 @@ fn signed_fits(k: usize, signs: Signs, words: &[u32], room: usize) -> bool
     true
 }
 
-// Whether the text of the words fits. A sign adds a byte at most, so that words need not be looked at one by one where there is room for
-// one with each that may have it, nor where there is none.
+// Whether the text of the words fits. Only words from 2147483648 up have a sign, and it adds a byte at most: where there is room for one with
+// each of them, or there are none of them, the words need not be looked at one by one.
 fn text_fits(k: usize, signs: Signs, words: &[u32], room: usize) -> bool
     requires { ⌜ (0 < k) × (room < 2 ^ 63) ⌝ }
     ensures { λ r. ⌜ r ≡ leb (length (linesText (format k signs) (now (words .entry)))) room ⌝ }
 {
-    let below = count_from(words, 2147483648);
-    if room < below {
+    let signed = count_from(words, VALUE_LIMIT + 1);
+    if room < signed {
         return false;
     }
-    if plain_fits(words, room - below) {
+    if plain_fits(words, room - signed) {
         return true;
     }
-    if below == 0 {
+    if signed == 0 {
         return false;
     }
     signed_fits(k, signs, words, room)
@@ -175,7 +176,7 @@ fn put_words(k: usize, signs: Signs, words: &[u32], out: &mut [u8], at: usize) -
     let mut told = false;
     let mut i = 0;
     while i < words.len() {
-        p = put_word(out, p, may_sign(k, signs, c, told), words[i]);
+        p = put_word(out, p, may_sign(k, c, told), words[i]);
         out[p] = byte_after(k, c);
         p += 1;
         told = told_next(k, signs, c, words[i], told);

@@ -56,7 +56,9 @@ pub use lengths::{
 };
 pub use library_hash::{ats_of_hash, library_hash, place_hash, twin_hash, FACTORS, STEPS};
 pub use nested::{nested_rule, NestedRule};
-pub use order_of_words::{other_marks, other_part, other_trial, other_verdict, other_verdicts};
+pub use order_of_words::{
+    other_marks, other_part, other_trial, other_verdict, other_verdicts, OTHER_TRIAL, OTHER_VERDICT,
+};
 pub use plans::{plan, plan_on_a_full_table, plan_on_colliding_rows, Plan, PlanLimit};
 pub use pools::{pool, pool_of, PoolShape};
 pub use requests::{one_or_several, unknown_mode, with_another_device};

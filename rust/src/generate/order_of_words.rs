@@ -10,6 +10,10 @@ use crate::checker::{
     STEP_WORDS,
 };
 
+/// What the tests note of such a request.
+pub const OTHER_VERDICT: &str = "another verdict by the order of the words";
+pub const OTHER_TRIAL: &str = "a plan with other verdicts by the order of the words";
+
 /// Whether the verdict would be another. Rule and pool are accepted, here and below.
 pub fn other_verdict(rule: &[u32], pool: &[u32]) -> bool {
     verdict(rule, pool) != verdict(&turned_rule(rule), &turned_table(pool))

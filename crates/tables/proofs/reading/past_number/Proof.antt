@@ -12,9 +12,9 @@ past-number-spec = tie.close (tie.spec
     (λ c. simp (eq-eqb _ _ (c .before .before .if1 .taken)))
     (λ c. search needs)
     (λ c κs. c .before .before .before .pre .1)
-    (λ c κs. c .before .before .before .before .pre .0 .0)
+    (λ c κs. search needs)
     (λ c. search needs)
     (λ c. let if1 = c .before .before .before .before .if1 in
     let word-of = c .before .before .word-of in
-    let told-next = c .before .told-next in
-    simp (ne-eqb _ _ (if1 .left), ← word-of .ensures, told-next .ensures)))
+    let tells = c .before .tells in
+    simp (ne-eqb _ _ (if1 .left), ← word-of .ensures, tells .ensures)))

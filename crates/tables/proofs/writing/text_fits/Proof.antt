@@ -7,6 +7,7 @@ use Rattle.tables.proofs.writing.text_fits.Tie as tie
 
 pub text-fits-spec : {M : Type 1} → statement M
 text-fits-spec = tie.close (tie.spec
+    (λ c. search needs)
     (λ c κs. search needs)
     (λ c. fit-none _ _ _ _ (c .before .count-from .ensures) (c .if1 .taken))
     (λ c κs. omega (arith, c .before .before .before .pre .1))
