@@ -14,7 +14,8 @@ use Rattle.tables.specs.Answers.{isDone, andThen, unless, value, output}
 use Rattle.tables.specs.Words.{rowCount, rows, rowAt}
 use Rattle.tables.specs.Rules.{checkRule, acceptedRule}
 use Rattle.tables.specs.Tables.{rowLimit, checkTable, acceptedTable}
-use Rattle.tables.specs.Files.{Format, countNames, countFormat, refusalNames, refusalFormat, isLast, nextColumn, toldNext, wordText, textFrom, linesText, writeText, checkFile}
+use Rattle.tables.specs.Files.{Format, countNames, countFormat, refusalNames, refusalFormat, isLast, nextColumn, toldNext}
+use Rattle.tables.specs.Files.{wordText, textFrom, linesText, writeText, checkFile}
 use Rattle.tables.specs.declared.Answer.{Answer}
 use Rattle.tables.specs.declared.Answer.the-variants.{Done, Refused}
 use Rattle.tables.proofs.Answers.{andThen-first, andThen-next, unless-next}
@@ -26,7 +27,8 @@ use Rattle.logic.specs.Formulas.{formula}
 use Rattle.logic.specs.Verdict.{verdict}
 use Rattle.checker.specs.Files.{ruleOf, poolOf, ruleFile, poolFile}
 use Rattle.checker.specs.Loading.{largestRefusal}
-use Rattle.checker.specs.Report.{fileLimit, sized, reportAnswer, begins, partCount, countAt, partsCount, counts, countsText, refusalText, textOf, reportText, reportLength, reportOut}
+use Rattle.checker.specs.Report.{fileLimit, sized, reportAnswer, begins, partCount, countAt, partsCount, counts, countsText}
+use Rattle.checker.specs.Report.{refusalText, textOf, reportText, reportLength, reportOut}
 use Rattle.checker.proofs.Sizes.{Small, small-then, small-rule-file, small-pool-file, small-sized}
 use Rattle.checker.proofs.OwnRows.{count-few}
 use Rattle.checker.proofs.Marks.{marked-few, one-few}

@@ -15,7 +15,8 @@ use Rattle.tables.specs.Answers.{number, place, andThen, unless, inOrder}
 use Rattle.tables.specs.Words.{entryCount, rowCount, rows}
 use Rattle.tables.specs.Rules.{one, ruleLength, entryFault, ruleChecks, checkRule}
 use Rattle.tables.specs.Tables.{rowLimit, tableLength, rowFault, tableChecks, checkTable}
-use Rattle.tables.specs.Files.{Format, ruleNames, ruleFormat, poolNames, poolFormat, stepOf, scanAll, atStart, startsWith, atLine, atEnd, lines, readWords, checkFile}
+use Rattle.tables.specs.Files.{Format, ruleNames, ruleFormat, poolNames, poolFormat, stepOf, scanAll, atStart, startsWith, atLine}
+use Rattle.tables.specs.Files.{atEnd, lines, readWords, checkFile}
 use Rattle.tables.specs.declared.Answer.{Answer}
 use Rattle.tables.specs.declared.Answer.the-variants.{Done, Refused}
 use Rattle.tables.specs.declared.reading.Scan.{Scan}

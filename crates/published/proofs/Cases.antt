@@ -5,14 +5,16 @@ use Rattle.tables.specs.Words.{rowsFrom}
 use Rattle.tables.specs.Rules.{aroundFrom, entryFault, checkRule}
 use Rattle.tables.specs.Tables.{rowFault, checkTable}
 use Rattle.tables.specs.Joining.{joinTables, joinAnswer, joinPool}
-use Rattle.tables.specs.Files.{digitOf, byteAfter, digitsUpTo, wordText, textFrom, writeText, digitStep, otherStep, stepOf, scanAll, wordsFrom, startsWith, readWords, checkFile, readAnswer, readOut, writeAnswer, writeOut}
+use Rattle.tables.specs.Files.{digitOf, byteAfter, digitsUpTo, wordText, textFrom, writeText, digitStep, otherStep, stepOf}
+use Rattle.tables.specs.Files.{scanAll, wordsFrom, startsWith, readWords, checkFile, readAnswer, readOut, writeAnswer, writeOut}
 use Rattle.sets.specs.Sets.{rulesFrom, ruleByRule, checkSet}
 use Rattle.plans.specs.Plans.{stepsFrom, stepPlace, tableAfter}
 use Rattle.logic.specs.Formulas.{formulas, formulaAt}
 use Rattle.logic.specs.Verdict.{holds, verdict, verdictAnswer, setVerdictsAnswer, setVerdictsOut}
 use Rattle.logic.specs.Marks.{reason, marked, marksAnswer, marksOut}
 use Rattle.logic.specs.Reading.{reading}
-use Rattle.logic.specs.Parts.{reachedIn, reached, spareIn, spare, reachedByAny, spareForEach, lineage, ancestors, partBy, branchPart, fullPart, partOf, sendAnswer, sendOut}
+use Rattle.logic.specs.Parts.{reachedIn, reached, spareIn, spare, reachedByAny, spareForEach, lineage, ancestors, partBy}
+use Rattle.logic.specs.Parts.{branchPart, fullPart, partOf, sendAnswer, sendOut}
 use Rattle.logic.specs.Trial.{stepAnswer, trySteps, beginAnswer}
 use Rattle.published.specs.Published.{v, _⊨_}
 use Rattle.published.specs.Stated.{stated, treeOf, tree, published}

@@ -14,7 +14,8 @@ use Rattle.tables.specs.Values.{opposite}
 use Rattle.tables.specs.Rules.{one, checkRule, acceptedRule}
 use Rattle.tables.specs.Tables.{checkTable}
 use Rattle.tables.specs.Joining.{joinAnswer, joinPool}
-use Rattle.tables.specs.Files.{Format, ruleNames, ruleFormat, poolNames, poolFormat, countNames, readAnswer, readOut, writeAnswer, writeOut, writeCounts, writeCountsOut}
+use Rattle.tables.specs.Files.{Format, ruleNames, ruleFormat, poolNames, poolFormat, countNames, readAnswer, readOut, writeAnswer}
+use Rattle.tables.specs.Files.{writeOut, writeCounts, writeCountsOut}
 use Rattle.tables.specs.declared.Row.{Row}
 use Rattle.tables.specs.declared.Answer.{Answer}
 use Rattle.tables.specs.declared.Answer.the-variants.{Done, Refused}

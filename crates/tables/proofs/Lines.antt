@@ -11,10 +11,12 @@ use Rattle.base.proofs.Bools.{either}
 use Rattle.tables.specs.declared.Answer.the-variants.{Done, Refused}
 use Rattle.tables.specs.declared.reading.Scan.{Scan}
 use Rattle.tables.specs.Words.{wordLimit, AllWords}
-use Rattle.tables.specs.Files.{Format, format, isLast, byteAfter, maySign, wordText, textFrom, atFault, wordRead, stepOf, atStart, scanAll, wordsFrom, atLine, lines, readWords, checkFile}
+use Rattle.tables.specs.Files.{Format, format, isLast, byteAfter, maySign, wordText, textFrom, atFault, wordRead, stepOf}
+use Rattle.tables.specs.Files.{atStart, scanAll, wordsFrom, atLine, lines, readWords, checkFile}
 use Rattle.tables.specs.declared.columns.Signs.the-variants.{Nowhere}
 use Rattle.tables.specs.Scans.{Sound}
-use Rattle.tables.specs.Lines.{IsNumber, LineFrom, at-last, at-next, IsLine, AllLines, no-lines, line-first, ontoFirst, linesOf, lineAt, toldBy, WhereSigns, ByLines, every-line, first-other, FilesByLines}
+use Rattle.tables.specs.Lines.{IsNumber, LineFrom, at-last, at-next, IsLine, AllLines, no-lines, line-first, ontoFirst}
+use Rattle.tables.specs.Lines.{linesOf, lineAt, toldBy, WhereSigns, ByLines, every-line, first-other, FilesByLines}
 use Rattle.tables.proofs.Steps.{View, begins, grows, ends, takes-sign, stops, view, fault-stays, step-sound, ended-word, count-words}
 use Rattle.tables.proofs.ReadBack.{Ready, pastWord, scan-append, words-append, word-scan}
 use Rattle.tables.proofs.WriteBack.{fresh-back}

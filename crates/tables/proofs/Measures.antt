@@ -128,7 +128,8 @@ signed-bytes signed w = either (signed && isBelowZero w)
 module _ (f : Format) where
   -- a word's bytes, the byte after it, and the rest
   pub text-length : (c : ℕ) (told : Bool) (w : ℕ) (ws : List ℕ)
-      → length (textFrom f c told (w ∷ ws)) ≡ length (wordText (maySign (f .columns) c told) w) + 1 + length (textFrom f (nextColumn (f .columns) c) (toldNext f c w told) ws)
+      → length (textFrom f c told (w ∷ ws))
+      ≡ length (wordText (maySign (f .columns) c told) w) + 1 + length (textFrom f (nextColumn (f .columns) c) (toldNext f c w told) ws)
   unfolding textFrom
   text-length c told w ws =
       length-append (wordText (maySign (f .columns) c told) w) (byteAfter (f .columns) c ∷ textFrom f (nextColumn (f .columns) c) (toldNext f c w told) ws) ∙ omega arith
@@ -188,29 +189,35 @@ pub record Fitting (f : Format) (ws : List ℕ) (room left c : ℕ) (told : Bool
 -- the text from the word i on
 pub next-text : (f : Format) (ws : List ℕ) (c : ℕ) (told : Bool) (i : ℕ) → i < length ws
     → textFrom f c told (drop i ws)
-    ≡ wordText (maySign (f .columns) c told) (getD ws i 0) ++ (byteAfter (f .columns) c ∷ textFrom f (nextColumn (f .columns) c) (toldNext f c (getD ws i 0) told) (drop (i + 1) ws))
+    ≡ wordText (maySign (f .columns) c told) (getD ws i 0)
+    ++ (byteAfter (f .columns) c ∷ textFrom f (nextColumn (f .columns) c) (toldNext f c (getD ws i 0) told) (drop (i + 1) ws))
 unfolding textFrom
 next-text f ws c told i h = rw (add-one i, drop-cons ws i 0 h)
 
 pub next-length : (f : Format) (ws : List ℕ) (c : ℕ) (told : Bool) (i : ℕ) → i < length ws
     → length (textFrom f c told (drop i ws))
-    ≡ length (wordText (maySign (f .columns) c told) (getD ws i 0)) + 1 + length (textFrom f (nextColumn (f .columns) c) (toldNext f c (getD ws i 0) told) (drop (i + 1) ws))
+    ≡ length (wordText (maySign (f .columns) c told) (getD ws i 0)) + 1
+    + length (textFrom f (nextColumn (f .columns) c) (toldNext f c (getD ws i 0) told) (drop (i + 1) ws))
 next-length f ws c told i h = ap (λ (l : List ℕ). length (textFrom f c told l)) (drop-cons ws i 0 h) ∙ text-length f c told (getD ws i 0) (drop (suc i) ws) ∙ rw (add-one i)
 
 module _ (f : Format) (ws : List ℕ) (room : ℕ) where
   pub fit-begin : 0 < f .columns → Fitting f ws room room 0 false 0
   fit-begin h = record { within = omega arith; column = h; rest = refl }
 
-  module _ (left c : ℕ) (told : Bool) (i n : ℕ) (t : Fitting f ws room left c told i) (h : i < length ws) (e : n ≡ length (wordText (maySign (f .columns) c told) (getD ws i 0)) + 1) where
+  module _ (left c : ℕ) (told : Bool) (i : ℕ) (t : Fitting f ws room left c told i) (h : i < length ws)
+      (signed : Bool) (es : signed ≡ maySign (f .columns) c told) (n : ℕ) (e : n ≡ length (wordText signed (getD ws i 0)) + 1) where
+    takes : length (textFrom f c told (drop i ws)) ≡ n + length (textFrom f (nextColumn (f .columns) c) (toldNext f c (getD ws i 0) told) (drop (i + 1) ws))
+    takes = next-length f ws c told i h ∙ rw (e, es)
+
     pub fit-short : left < n → false ≡ leb (length (linesText f ws)) room
-    fit-short l = sym (lt-leb (length (linesText f ws)) room (omega (arith, t .rest, next-length f ws c told i h)))
+    fit-short l = sym (lt-leb (length (linesText f ws)) room (omega (arith, t .rest, takes)))
 
     pub fit-more : (d : ℕ) (next : Bool) → n ≤ left → next ≡ toldNext f c (getD ws i 0) told → d ≡ nextColumn (f .columns) c → d < f .columns
         → Fitting f ws room (left - n) d next (i + 1)
     fit-more d next l en ed dl = rw (en, ed) (record {
       within = omega arith;
       column = rw ed at dl;
-      rest = omega (arith, t .rest, next-length f ws c told i h);
+      rest = omega (arith, t .rest, takes);
     })
 
   pub fit-end : (left c : ℕ) (told : Bool) (i : ℕ) → Fitting f ws room left c told i → length ws ≤ i → true ≡ leb (length (linesText f ws)) room

@@ -14,7 +14,10 @@ use Rattle.tables.specs.declared.reading.Scan.{Scan}
 use Rattle.tables.specs.Answers.{isDone}
 use Rattle.tables.specs.Words.{wordLimit, AllWords, whole}
 use Rattle.tables.specs.Values.{valueLimit, isBelowZero, opposite}
-use Rattle.tables.specs.Files.{Format, isLast, byteAfter, nextColumn, toldNext, maySign, digitByte, minusByte, digitOf, withDigit, isWithin, digitsUpTo, numberText, wordText, textFrom, linesText, writeText, afterMinus, inNumber, wordRead, pastNumber, digitStep, otherStep, stepOf, atStart, scanAll, wordsFrom, startsWith, lines, readWords, checkFile}
+use Rattle.tables.specs.Files.{Format, isLast, byteAfter, nextColumn, toldNext, maySign, digitByte, minusByte, digitOf}
+use Rattle.tables.specs.Files.{withDigit, isWithin, digitsUpTo, numberText, wordText, textFrom, linesText, writeText}
+use Rattle.tables.specs.Files.{afterMinus, inNumber, wordRead, pastNumber, digitStep, otherStep, stepOf, atStart, scanAll}
+use Rattle.tables.specs.Files.{wordsFrom, startsWith, lines, readWords, checkFile}
 use Rattle.tables.proofs.Steps.{inLimits, digit-of, after-digit, count-words, next-lt, loud}
 
 pub scan-append : (f : Format) (s : Scan) (a b : List ℕ) → scanAll f s (a ++ b) ≡ scanAll f (scanAll f s a) b

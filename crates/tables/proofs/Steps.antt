@@ -11,7 +11,9 @@ use Rattle.base.proofs.Bools.{and-left, and-right, either}
 use Rattle.tables.specs.declared.reading.Scan.{Scan}
 use Rattle.tables.specs.Words.{wordLimit}
 use Rattle.tables.specs.Values.{valueLimit}
-use Rattle.tables.specs.Files.{Format, isLast, byteAfter, nextColumn, maySign, digitByte, minusByte, digitOf, withDigit, mayGrow, isWithin, wordOf, afterMinus, inNumber, atFault, wordRead, pastNumber, digitStep, mayEnd, otherStep, stepOf, scanAll, wordsFrom}
+use Rattle.tables.specs.Files.{Format, isLast, byteAfter, nextColumn, maySign, digitByte, minusByte, digitOf, withDigit}
+use Rattle.tables.specs.Files.{mayGrow, isWithin, wordOf, afterMinus, inNumber, atFault, wordRead, pastNumber, digitStep}
+use Rattle.tables.specs.Files.{mayEnd, otherStep, stepOf, scanAll, wordsFrom}
 use Rattle.tables.specs.Scans.{Sound, IsWord}
 
 -- the number read is within the limits of its column

@@ -16,7 +16,8 @@ use Rattle.tables.specs.declared.reading.Number.{Number}
 use Rattle.tables.specs.Words.{wordLimit}
 use Rattle.tables.specs.Files.{Format, minusByte, digitOf, wordRead, stepOf, atStart, scanAll, wordsFrom}
 use Rattle.tables.specs.Scans.{Sound, firstNumber, IsWord, numberAfter, storedFrom, putOf, Fillable}
-use Rattle.tables.proofs.Steps.{View, begins, grows, ends, takes-sign, stops, view, digit-of, after-digit, after-minus, fault-stays, step-sound, ended-word}
+use Rattle.tables.proofs.Steps.{View, begins, grows, ends, takes-sign, stops, view, digit-of, after-digit, after-minus}
+use Rattle.tables.proofs.Steps.{fault-stays, step-sound, ended-word}
 use Rattle.tables.proofs.Scans.{scan-begin}
 use Rattle.tables.proofs.Fills.{numberAt, Filling, fill-begin, fill-room, fill-more, fill-end}
 

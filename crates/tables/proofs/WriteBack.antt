@@ -13,7 +13,9 @@ use Rattle.tables.specs.declared.reading.Scan.{Scan}
 use Rattle.tables.specs.Answers.{isDone}
 use Rattle.tables.specs.Words.{wordLimit}
 use Rattle.tables.specs.Values.{valueLimit, isBelowZero, opposite}
-use Rattle.tables.specs.Files.{Format, byteAfter, maySign, digitByte, minusByte, withDigit, isWithin, wordOf, numberText, wordText, textFrom, linesText, writeText, afterMinus, inNumber, wordRead, pastNumber, stepOf, atStart, scanAll, wordsFrom, atLine, startsWith, lines, atEnd, readWords, checkFile}
+use Rattle.tables.specs.Files.{Format, byteAfter, maySign, digitByte, minusByte, withDigit, isWithin, wordOf, numberText}
+use Rattle.tables.specs.Files.{wordText, textFrom, linesText, writeText, afterMinus, inNumber, wordRead, pastNumber, stepOf}
+use Rattle.tables.specs.Files.{atStart, scanAll, wordsFrom, atLine, startsWith, lines, atEnd, readWords, checkFile}
 use Rattle.tables.proofs.Digits.{text-one, text-grow}
 use Rattle.tables.proofs.Steps.{View, begins, grows, ends, takes-sign, stops, view, fault-stays, quiet, loud}
 

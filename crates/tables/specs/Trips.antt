@@ -8,7 +8,8 @@ use Rattle.tables.specs.Answers.{isDone, value}
 use Rattle.tables.specs.Words.{AllWords, whole}
 use Rattle.tables.specs.Rules.{checkRule}
 use Rattle.tables.specs.Tables.{checkTable}
-use Rattle.tables.specs.Files.{Format, ruleNames, ruleFormat, poolNames, poolFormat, writeText, readWords, readAnswer, readOut, writeAnswer, writeOut, acceptedFile}
+use Rattle.tables.specs.Files.{Format, ruleNames, ruleFormat, poolNames, poolFormat, writeText, readWords, readAnswer}
+use Rattle.tables.specs.Files.{readOut, writeAnswer, writeOut, acceptedFile}
 use Rattle.tables.specs.declared.Answer.{Answer}
 use Rattle.tables.specs.declared.Answer.the-variants.{Done}
 

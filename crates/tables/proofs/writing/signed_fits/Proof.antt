@@ -1,9 +1,8 @@
 -- `tables::writing::signed_fits` meets its contract, by the laws of proofs/Measures.antt. Assumes nothing.
 use Prim.Native.Nat.{ℕ, _+_, _-_}
-use mathlib.Core.Path.{ap, _∙_}
-use mathlib.Core.Bool.{Bool}
-use lib.ListN.{length, getD}
-use Rattle.tables.specs.Files.{format, wordText}
+use mathlib.Core.Path.{ap}
+use lib.ListN.{length}
+use Rattle.tables.specs.Files.{format}
 use Rattle.tables.proofs.Measures.{Fitting, fit-begin, fit-short, fit-more, fit-end}
 use borrow.Author.Needs.{needs}
 use native.Mathlib.Omega.{arith}
@@ -22,11 +21,11 @@ signed-fits-spec = tie.close (tie.spec
     (λ c. omega (arith, c .word-width .ensures .1))
     (λ c. let loop = c .before .before .before .before .before .loop in
     let loop-test = c .before .before .before .before .loop-test in
-    let word-width = c .before .word-width in
-    let s = c .before .before .before .before .before .before .before in
     let may-sign = c .before .before .before .may-sign in
+    let word-width = c .before .word-width in
     let if1 = c .if1 in
-    fit-short _ _ _ _ _ _ _ _ (loop .inv) (loop-test .taken) (ap (λ (n : ℕ). n + 1) (word-width .ensures .0 ∙ ap (λ (b : Bool). length (wordText b (getD (s .args .words .now) (loop .i) 0))) (may-sign .ensures))) (if1 .taken))
+    fit-short _ _ _ _ _ _ _ (loop .inv) (loop-test .taken) _ (may-sign .ensures) _
+    (ap (λ (n : ℕ). n + 1) (word-width .ensures .0)) (if1 .taken))
     (λ c. search needs)
     (λ c. search needs)
     (λ c κs. c .before .before .before .before .before .before .loop .inv .column)
@@ -35,11 +34,12 @@ signed-fits-spec = tie.close (tie.spec
     (λ c. omega arith)
     (λ c. let loop = c .before .before .before .before .before .before .before .before .loop in
     let loop-test = c .before .before .before .before .before .before .before .loop-test in
-    let word-width = c .before .before .before .before .word-width in
-    let s = c .before .before .before .before .before .before .before .before .before .before in
     let may-sign = c .before .before .before .before .before .before .may-sign in
+    let word-width = c .before .before .before .before .word-width in
     let if1 = c .before .before .before .if1 in
     let told-next = c .before .told-next in
     let next-column = c .next-column in
-    fit-more _ _ _ _ _ _ _ _ (loop .inv) (loop-test .taken) (ap (λ (n : ℕ). n + 1) (word-width .ensures .0 ∙ ap (λ (b : Bool). length (wordText b (getD (s .args .words .now) (loop .i) 0))) (may-sign .ensures))) _ _ (if1 .left) (told-next .ensures) (next-column .ensures .0) (next-column .ensures .1))
+    fit-more _ _ _ _ _ _ _ (loop .inv) (loop-test .taken) _ (may-sign .ensures) _
+    (ap (λ (n : ℕ). n + 1) (word-width .ensures .0)) _ _ (if1 .left) (told-next .ensures)
+    (next-column .ensures .0) (next-column .ensures .1))
     (λ c. fit-end _ _ _ _ _ _ _ (c .before .loop .inv) (c .loop-test .left)))
