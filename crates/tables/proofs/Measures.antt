@@ -125,6 +125,12 @@ signed-bytes signed w = either (signed && isBelowZero w)
     })
     (λ e. record { most = rw e (omega arith); least = rw e (omega arith); pos = rw e (text-pos w) })
 
+-- a text of the words: two bytes at least for each, a digit and the byte after it
+record Taken (ws : List ℕ) (bytes : ℕ) : Type 0 where
+  most : bytes ≤ plainLength ws + countFrom 2147483648 ws
+  least : plainLength ws ≤ bytes + 9 * countFrom 2147483648 ws
+  two : 2 * length ws ≤ bytes
+
 module _ (f : Format) where
   -- a word's bytes, the byte after it, and the rest
   pub text-length : (c : ℕ) (told : Bool) (w : ℕ) (ws : List ℕ)
@@ -134,51 +140,32 @@ module _ (f : Format) where
   text-length c told w ws =
       length-append (wordText (maySign (f .columns) c told) w) (byteAfter (f .columns) c ∷ textFrom f (nextColumn (f .columns) c) (toldNext f c w told) ws) ∙ omega arith
 
-  text-most : (c : ℕ) (told : Bool) (ws : List ℕ) → length (textFrom f c told ws) ≤ plainLength ws + countFrom 2147483648 ws
+  text-taken : (c : ℕ) (told : Bool) (ws : List ℕ) → Taken ws (length (textFrom f c told ws))
   unfolding textFrom plainLength
-  text-most c told [] = omega arith
-  text-most c told (w ∷ ws) =
-      omega (
-        arith,
-        text-length c told w ws,
-        signed-bytes (maySign (f .columns) c told) w .most,
-        count-cons 2147483648 w ws,
-        text-most (nextColumn (f .columns) c) (toldNext f c w told) ws,
-      )
-
-  text-least : (c : ℕ) (told : Bool) (ws : List ℕ) → plainLength ws ≤ length (textFrom f c told ws) + 9 * countFrom 2147483648 ws
-  unfolding textFrom plainLength
-  text-least c told [] = omega arith
-  text-least c told (w ∷ ws) =
-      omega (
-        arith,
-        text-length c told w ws,
-        signed-bytes (maySign (f .columns) c told) w .least,
-        count-cons 2147483648 w ws,
-        text-least (nextColumn (f .columns) c) (toldNext f c w told) ws,
-      )
-
-  -- a digit and the byte after it
-  text-two : (c : ℕ) (told : Bool) (ws : List ℕ) → 2 * length ws ≤ length (textFrom f c told ws)
-  unfolding textFrom
-  text-two c told [] = omega arith
-  text-two c told (w ∷ ws) =
-      omega (arith, text-length c told w ws, signed-bytes (maySign (f .columns) c told) w .pos, text-two (nextColumn (f .columns) c) (toldNext f c w told) ws)
+  text-taken c told [] = record { most = omega arith; least = omega arith; two = omega arith }
+  text-taken c told (w ∷ ws) =
+      let one = signed-bytes (maySign (f .columns) c told) w in
+      let rest = text-taken (nextColumn (f .columns) c) (toldNext f c w told) ws in
+      record {
+        most = omega (arith, text-length c told w ws, one .most, count-cons 2147483648 w ws, rest .most);
+        least = omega (arith, text-length c told w ws, one .least, count-cons 2147483648 w ws, rest .least);
+        two = omega (arith, text-length c told w ws, one .pos, rest .two);
+      }
 
   -- ---- whether the text fits, from the words that may have a sign
   module _ (ws : List ℕ) (room below : ℕ) (e : below ≡ countFrom 2147483648 ws) where
     pub fit-none : room < below → false ≡ leb (length (linesText f ws)) room
-    fit-none h = sym (lt-leb (length (linesText f ws)) room (omega (arith, text-two 0 false ws, length-select (λ w. leb 2147483648 w) ws)))
+    fit-none h = sym (lt-leb (length (linesText f ws)) room (omega (arith, text-taken 0 false ws .two, length-select (λ w. leb 2147483648 w) ws)))
 
     pub fit-plain : (r : Bool) → below ≤ room → r ≡ leb (plainLength ws) (room - below) → r ≡ true → true ≡ leb (length (linesText f ws)) room
     fit-plain r h q t =
         let l : plainLength ws ≤ room - below = leb-true (plainLength ws) (room - below) (sym q ∙ t) in
-        sym (le-leb (length (linesText f ws)) room (omega (arith, text-most 0 false ws)))
+        sym (le-leb (length (linesText f ws)) room (omega (arith, text-taken 0 false ws .most)))
 
     pub fit-over : (r : Bool) → r ≡ leb (plainLength ws) (room - below) → r ≡ false → below ≡ 0 → false ≡ leb (length (linesText f ws)) room
     fit-over r q t z =
         let l : room - below < plainLength ws = leb-false (plainLength ws) (room - below) (sym q ∙ t) in
-        sym (lt-leb (length (linesText f ws)) room (omega (arith, text-least 0 false ws)))
+        sym (lt-leb (length (linesText f ws)) room (omega (arith, text-taken 0 false ws .least)))
 
 -- ---- word by word: what is left of the room is for the rest
 pub record Fitting (f : Format) (ws : List ℕ) (room left c : ℕ) (told : Bool) (i : ℕ) : Type 0 where
