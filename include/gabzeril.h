@@ -30,7 +30,7 @@ extern "C" {
 #endif
 
 /* The Makefile reads the version from this line. */
-#define GABZERIL_VERSION "0.6.0"
+#define GABZERIL_VERSION "0.7.0"
 
 /* Limits. */
 
@@ -42,7 +42,8 @@ extern "C" {
 #define GABZERIL_NESTING_LIMIT 6 /* so many quantifiers stand around one another at most */
 #define GABZERIL_SET_LIMIT 32    /* a set has 1 to so many rules */
 
-#define GABZERIL_NAME_LIMIT 65535              /* device, at and name are 1 to this; so are names in quantifiers */
+#define GABZERIL_NAME_LIMIT 65535              /* device, at and name are 1 to this; a quantifier's name too, or GABZERIL_ANY_NAME */
+#define GABZERIL_ANY_NAME 0                    /* a quantifier with this name takes rows of any name; no row has it */
 #define GABZERIL_VALUE_LIMIT 2147483647        /* the largest value, and the largest constant */
 #define GABZERIL_VALUE_LEAST (-2147483647 - 1) /* the least; every word stands for one from this to the largest */
 
@@ -82,7 +83,8 @@ enum gabzeril_kind {
     GABZERIL_AT_MOST = 9
 };
 
-/* b of a quantifier: over roots, or over the rows whose parent is the row of that variable. */
+/* b of a quantifier: over roots, or over the rows whose parent is the row of that variable. Its c is the name of these
+ * rows, or GABZERIL_ANY_NAME. */
 #define GABZERIL_ROOTS 0
 #define GABZERIL_UNDER(variable) (1 + (variable))
 

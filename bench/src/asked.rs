@@ -1,5 +1,6 @@
 //! The figures that are asked for, beside those measured.
 
+use crate::any_name;
 use crate::cases::{
     label, A_TRUE, BOOK_ON_DEVICES, BOOK_ON_ONE_DEVICE, B_TRUE, C_TRUE, LONGEST_WITHOUT_SIGNS, ONE_DEVICE,
     ORDER_ON_ROOTS, THREE_ROWS,
@@ -66,6 +67,7 @@ pub fn print(counts: &Counts, before: &Counts) {
     print_growth(counts, before);
     print_set_verdicts(counts, before);
     trial::print_asked(counts);
+    any_name::print_asked(counts);
 }
 
 fn yes_or_no(met: bool) -> &'static str {

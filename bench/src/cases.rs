@@ -3,6 +3,7 @@
 use gabzeril_tests::checker::{rows_of, words_of, POOL, ROW_WORDS, RULE};
 use gabzeril_tests::largest;
 
+use crate::any_name;
 use crate::calls::Call;
 use crate::inputs::{
     all_in_one_chain, children_in_one_chain, deep, devices, early, gathered, late, longest_without_signs,
@@ -115,6 +116,7 @@ pub fn all() -> Vec<Case> {
     trial::add_cases(&mut cases);
     written_numbers(&mut cases);
     signs(&mut cases);
+    any_name::add_cases(&mut cases);
     cases
 }
 

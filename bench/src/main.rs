@@ -7,6 +7,7 @@
 //! - `stack`: the stack that each call takes on the largest inputs.
 //! - `sent`: the rows sent for the formulas of document 004, and for a rule book.
 
+mod any_name;
 mod asked;
 mod book;
 mod calls;

@@ -3,17 +3,46 @@
 
 use crate::answer::{Answer, Refusal};
 use crate::checker::{accepted_rule, accepted_table, rows_of, spare_rows, ROW_WORDS};
+#[cfg(all(feature = "lower", feature = "engine", any(feature = "parts", feature = "sets")))]
+use crate::ffi;
 use crate::generate::Set;
 use crate::random::Random;
 
+/// The part of a table in a mode.
+pub type Part = fn(&Set, &[u32], u32, &mut [u32]) -> Answer;
+
 /// The calls under test. Part and verdicts may be those on one rule, for sets of one.
 pub struct Calls {
-    pub part: fn(&Set, &[u32], u32, &mut [u32]) -> Answer,
+    pub part: Part,
     pub join: fn(&mut [u32], usize, &[u32]) -> Answer,
     /// One byte for each rule.
     pub verdicts: fn(&Set, &[u32], &mut [u8]) -> Answer,
     pub marks: fn(&[u32], &[u32], &mut [u8]) -> Answer,
 }
+
+/// The library's, on one rule.
+#[cfg(all(feature = "lower", feature = "engine", feature = "parts"))]
+pub const LIBRARY_ON_ONE_RULE: Calls = Calls {
+    part: |one, table, mode, part| ffi::part(&one.rules, table, mode, part),
+    join: ffi::join,
+    verdicts: |one, pool, verdicts| match ffi::verdict(&one.rules, pool) {
+        Answer::Done(verdict) => {
+            verdicts[0] = u8::try_from(verdict).unwrap_or(u8::MAX);
+            Answer::Done(1)
+        }
+        answer => answer,
+    },
+    marks: ffi::marks,
+};
+
+/// The library's, on sets.
+#[cfg(all(feature = "lower", feature = "engine", feature = "sets"))]
+pub const LIBRARY_ON_SETS: Calls = Calls {
+    part: |set, table, mode, part| ffi::set_part(&set.rules, &set.counts, table, mode, part),
+    join: ffi::join,
+    verdicts: |set, pool, verdicts| ffi::set_verdicts(&set.rules, &set.counts, pool, verdicts),
+    marks: ffi::marks,
+};
 
 /// What the joinings of a list left.
 struct Joined {
@@ -156,7 +185,7 @@ fn marked(table: &[u32], marks: &[u8]) -> Vec<[u32; 2]> {
 mod tests {
     use super::*;
     use crate::checker;
-    use crate::generate::{rule_and_devices, set_and_devices, Together};
+    use crate::generate::{any_names_and_devices, rule_and_devices, set_and_devices, OneSided, Together};
 
     const CHECKER: Calls = Calls {
         part: |set, table, mode, part| checker::set_part(&set.rules, &set.counts, table, mode, part),
@@ -173,10 +202,38 @@ mod tests {
             let (rule, devices) = rule_and_devices(&mut random, Together { rows: 24, cost: 20_000 });
             check(seed, &mut random, &Set::of(&[rule]), &devices);
         }
+        for seed in 0..8_000 {
+            let mut random = Random::new(seed);
+            let (rule, devices) = any_names_and_devices(&mut random, Together { rows: 24, cost: 20_000 });
+            check(seed, &mut random, &Set::of(&[rule]), &devices);
+        }
         for seed in 0..10_000 {
             let mut random = Random::new(seed);
             let (set, devices) = set_and_devices(&mut random, Together { rows: 24, cost: 20_000 });
             check(seed, &mut random, &set, &devices);
+        }
+    }
+
+    /// Where the name 0 takes no rows in reaching, or none in reading, some verdicts would be lost.
+    #[test]
+    fn finds_that_any_name_is_taken_on_one_side_alone() {
+        fn put(rows: Vec<checker::Row>, part: &mut [u32]) -> Answer {
+            part[..rows.len() * ROW_WORDS].copy_from_slice(&checker::words_of(&rows));
+            Answer::Done(rows.len())
+        }
+        let parts: [(Part, usize); 2] = [
+            (|set, table, mode, part| put(OneSided::ReadingAlone.rows_sent(set, table, mode), part), 500),
+            (|set, table, mode, part| put(OneSided::ReachingAlone.rows_sent(set, table, mode), part), 30),
+        ];
+        for (part, least) in parts {
+            let calls = Calls { part, ..CHECKER };
+            let fails = |&seed: &u64| {
+                let mut random = Random::new(seed);
+                let (rule, devices) = any_names_and_devices(&mut random, Together { rows: 24, cost: 20_000 });
+                check_list(&calls, &mut random, &Set::of(&[rule]), &devices).is_err()
+            };
+            let lists = (0..3_000).filter(fails).count();
+            assert!(lists >= least, "only {lists} lists");
         }
     }
 

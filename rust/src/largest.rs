@@ -1,8 +1,8 @@
 //! The largest accepted inputs, for calls on a small stack.
 
 use crate::checker::{
-    rows_of, words_of, Row, ADD, ENTRY_WORDS, LEAST_VALUE, MOST_ENTRIES, MOST_NAME, MOST_NESTED, MOST_ROWS,
-    MOST_RULES, REMOVE, SET, STEP_WORDS,
+    rows_of, words_of, Row, ADD, ANY_NAME, ENTRY_WORDS, LEAST_VALUE, MOST_ENTRIES, MOST_NAME, MOST_NESTED,
+    MOST_ROWS, MOST_RULES, REMOVE, SET, STEP_WORDS,
 };
 use crate::generate::Set;
 
@@ -13,13 +13,32 @@ const LAST_VALUE: u32 = MOST_ROWS as u32 - 1;
 
 /// Rules that go as deep as rules can.
 pub fn rules() -> Vec<Vec<u32>> {
-    let mut rules =
-        vec![quantifiers(), quantifiers_under_one_another(), nots(1, COMMON), nots(MOST_NESTED as u32, LAST)];
+    let mut rules = vec![
+        quantifiers(LAST),
+        quantifiers_under_one_another(LAST),
+        nots(1, COMMON),
+        nots(MOST_NESTED as u32, LAST),
+    ];
     for kind in [2, 3, 4] {
         rules.extend([deep_right(kind), deep_left(kind)]);
     }
     rules.extend([over_connectives(5, 2, 9), over_connectives(6, 3, 8), nots_first(5), nots_first(6)]);
+    rules.extend(over_any_name());
     rules
+}
+
+/// As many quantifiers over any name as may be. Each may range over all rows of a table, so they cannot all walk
+/// all rows around one another: only the last row goes on to the next quantifier, or the first row decides.
+fn over_any_name() -> Vec<Vec<u32>> {
+    let innermost = MOST_NESTED as u32 - 1;
+    vec![
+        quantifiers(ANY_NAME),
+        quantifiers_under_one_another(ANY_NAME),
+        // Whatever value a step gives to the first row.
+        nots_between(5, [0; MOST_NESTED], [8, innermost, 0, innermost]),
+        nots_between(6, [0; MOST_NESTED], [7, innermost, 0, innermost]),
+        nots_between(6, [0, 1, 2, 3, 4, 5], [9, 0, 0, innermost]),
+    ]
 }
 
 /// Sets of as many rules as may be: of the rules above, from the first and from the last on; and of those of as
@@ -65,24 +84,24 @@ fn over_connectives(quantifier: u32, connective: u32, comparison: u32) -> Vec<u3
 }
 
 /// As many as may stand around one another: some x that is the last row, and some y that is, and so on.
-fn quantifiers() -> Vec<u32> {
+fn quantifiers(name: u32) -> Vec<u32> {
     let mut rule = vec![];
     for variable in 0..MOST_NESTED as u32 - 1 {
         let place = 3 * variable;
-        rule.extend([6, place + 1, 0, LAST]);
+        rule.extend([6, place + 1, 0, name]);
         rule.extend([2, place + 2, place + 3, 0]);
         rule.extend([7, variable, 1, LAST_VALUE]);
     }
     let last = MOST_NESTED as u32 - 1;
-    rule.extend([6, 3 * last + 1, 0, LAST, 7, last, 1, LAST_VALUE]);
+    rule.extend([6, 3 * last + 1, 0, name, 7, last, 1, LAST_VALUE]);
     rule
 }
 
 /// Each ranges over the children of the row before.
-fn quantifiers_under_one_another() -> Vec<u32> {
+fn quantifiers_under_one_another(name: u32) -> Vec<u32> {
     let mut rule = vec![];
     for variable in 0..MOST_NESTED as u32 {
-        rule.extend([6, variable + 1, variable, LAST]);
+        rule.extend([6, variable + 1, variable, name]);
     }
     rule.extend([9, 0, 0, MOST_NESTED as u32 - 1]);
     rule
@@ -99,6 +118,20 @@ fn nots(quantifiers: u32, name: u32) -> Vec<u32> {
         rule.extend(words);
     }
     rule.extend([7, quantifiers - 1, 1, LAST_VALUE]);
+    rule
+}
+
+/// One chain of 128 entries: a not, then quantifiers over any name, each with its b and an even number of nots
+/// behind it, then a comparison.
+fn nots_between(quantifier: u32, under: [u32; MOST_NESTED], comparison: [u32; 4]) -> Vec<u32> {
+    let step = (MOST_ENTRIES - 2) / MOST_NESTED;
+    let mut rule = vec![1, 1, 0, 0];
+    for b in under {
+        let place = (rule.len() / ENTRY_WORDS) as u32;
+        rule.extend([quantifier, place + 1, b, ANY_NAME]);
+        rule.extend((1..step as u32).flat_map(|not| [1, place + not + 1, 0, 0]));
+    }
+    rule.extend(comparison);
     rule
 }
 
@@ -144,6 +177,8 @@ pub fn tables() -> Vec<Vec<u32>> {
         table(|row| [row, COMMON]),
         // All under the first.
         table(|row| if row == 0 { [0, COMMON] } else { [1, LAST] }),
+        // Roots of as many names as rows.
+        table(|row| [0, row + 1]),
     ]
 }
 
@@ -287,7 +322,25 @@ mod tests {
 
     #[test]
     fn quantifiers_decide_at_the_last_rows() {
-        assert_eq!(verdict(&quantifiers(), &table_of_two()), Answer::Done(1));
-        assert_eq!(verdict(&quantifiers_under_one_another(), &tables()[1]), Answer::Done(1));
+        assert_eq!(verdict(&quantifiers(LAST), &table_of_two()), Answer::Done(1));
+        assert_eq!(verdict(&quantifiers_under_one_another(LAST), &tables()[1]), Answer::Done(1));
+    }
+
+    /// All six find rows, of whatever names: those over roots on tables of roots, the others on chains.
+    #[test]
+    fn quantifiers_over_any_name_find_rows() {
+        let [roots, end, path, _, names] = &tables()[..] else { panic!("five tables") };
+        let [at_last, under, every, some, some_under] = &over_any_name()[..] else { panic!("five rules") };
+        for table in [roots, names] {
+            assert_eq!([at_last, under].map(|rule| verdict(rule, table)), [1, 0].map(Answer::Done));
+        }
+        for table in [end, path] {
+            assert_eq!([at_last, under].map(|rule| verdict(rule, table)), [0, 1].map(Answer::Done));
+        }
+        // A not stands first.
+        for table in [roots, end, path, names] {
+            assert_eq!([every, some].map(|rule| verdict(rule, table)), [1, 0].map(Answer::Done));
+        }
+        assert_eq!([roots, path].map(|table| verdict(some_under, table)), [1, 0].map(Answer::Done));
     }
 }

@@ -146,6 +146,7 @@ fn limits() -> Vec<(String, u64)> {
         ("NESTING_LIMIT", MOST_NESTED as u64),
         ("SET_LIMIT", MOST_RULES as u64),
         ("NAME_LIMIT", MOST_NAME.into()),
+        ("ANY_NAME", ANY_NAME.into()),
         ("VALUE_LIMIT", MOST_VALUE.into()),
     ])
 }
@@ -249,7 +250,7 @@ fn refusals() -> Vec<(String, u64)> {
         ("ACCEPTED", check_rule(&RULE_OF_ROOTS)),
         ("REFUSED_RULE_LENGTH", check_rule(&[])),
         ("REFUSED_KIND", check_rule(&[0, 0, 0, 0])),
-        ("REFUSED_WORD", check_rule(&[5, 1, 0, 0])),
+        ("REFUSED_WORD", check_rule(&[5, 1, 0, MOST_NAME + 1])),
         ("REFUSED_CHILD", check_rule(&[5, 0, 0, 1])),
         ("REFUSED_NAMING", check_rule(&[5, 1, 0, 1, 7, 0, 1, 0, 7, 0, 1, 0])),
         ("REFUSED_NESTING", check_rule(&too_nested)),
@@ -363,6 +364,25 @@ fn under_names_the_variable() {
     for variable in 0..MOST_NESTED {
         assert_eq!(under(1 + variable as u32), Some(variable));
     }
+}
+
+/// Names of quantifiers are those of rows and one more, which takes rows of each.
+#[test]
+fn any_name_is_no_rows_name() {
+    let of_quantifier = |name: &u32| check_rule(&[6, 1, 0, *name, 7, 0, 1, 1]).number() == 0;
+    let of_row = |name: u32| check_table(&[1, 1, 0, 0, name, 1]).number() == 0;
+    let names = (0..=MOST_NAME + 1).chain([u32::MAX]);
+    let any: Vec<u32> = names.clone().filter(of_quantifier).filter(|&name| !of_row(name)).collect();
+    assert_eq!(any, [ANY_NAME]);
+    assert!(names.filter(|&name| of_row(name)).eq(1..=MOST_NAME));
+    let rule = |name: u32| [6, 1, 0, name, 7, 0, 1, 1];
+    for name in [1, 2, MOST_NAME] {
+        let row = [1, 1, 0, 0, name, 1];
+        assert_eq!(verdict(&rule(ANY_NAME), &row), Answer::Done(1));
+        assert_eq!(verdict(&rule(3), &row), Answer::Done(0));
+    }
+    assert_eq!(check_rule(&rule(MOST_NAME + 1)), Answer::refused(3, 0));
+    assert_eq!(check_table(&[1, 1, 0, 0, ANY_NAME, 1]), Answer::refused(9, 0));
 }
 
 /// C would take -2147483648 for a minus sign before a number that int does not have.

@@ -218,9 +218,9 @@ fn tables_of_one_number() -> Vec<Vec<u32>> {
     devices.chain(ats).chain(ups).chain(names).chain(values).collect()
 }
 
-/// A name or a constant.
+/// A name, also that of quantifiers over any, or a constant.
 fn rules_of_one_number() -> Vec<Vec<u32>> {
-    let names = ends_of_digits(MOST_NAME).into_iter().filter(|&number| number > 0);
+    let names = ends_of_digits(MOST_NAME).into_iter();
     let of_names = names.map(|number| vec![5, 1, 0, number, 7, 0, 1, 1]);
     let constants = ends_of_values().into_iter();
     of_names.chain(constants.map(|word| vec![6, 1, 0, 1, 9, 0, 1, word])).collect()

@@ -121,25 +121,12 @@ fn saw_each_before_the_part(tally: &Tally, least: u64) {
 #[test]
 fn lists_of_devices() {
     use gabzeril_tests::answer::Answer;
-    use gabzeril_tests::demand3::{check_list, Calls};
-    use gabzeril_tests::ffi;
+    use gabzeril_tests::demand3::{check_list, LIBRARY_ON_ONE_RULE};
 
-    let calls = Calls {
-        part: |one, table, mode, part| ffi::part(&one.rules, table, mode, part),
-        join: ffi::join,
-        verdicts: |one, pool, verdicts| match ffi::verdict(&one.rules, pool) {
-            Answer::Done(verdict) => {
-                verdicts[0] = u8::try_from(verdict).unwrap_or(u8::MAX);
-                Answer::Done(1)
-            }
-            answer => answer,
-        },
-        marks: ffi::marks,
-    };
     let limit = Together { rows: 24, cost: 8_000 };
     run("lists_of_devices", 100_000, 100_000, |case| {
         let (rule, devices) = rule_and_devices(&mut case.random, limit);
-        let result = check_list(&calls, &mut case.random, &Set::of(&[&rule]), &devices);
+        let result = check_list(&LIBRARY_ON_ONE_RULE, &mut case.random, &Set::of(&[&rule]), &devices);
         case.compared(result.is_ok(), Answer::Done(devices.len()), || {
             format!("{rule:?} {devices:?}: {result:?}")
         });

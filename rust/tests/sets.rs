@@ -4,7 +4,7 @@
 use gabzeril_tests::answer::Answer;
 use gabzeril_tests::checker::{self, check_rule, ENTRY_WORDS, MOST_ENTRIES, MOST_RULES, ROW_WORDS};
 use gabzeril_tests::compare::{calls, run, Case, Tally};
-use gabzeril_tests::demand3::{check_list, Calls};
+use gabzeril_tests::demand3::{check_list, LIBRARY_ON_SETS};
 use gabzeril_tests::ffi;
 use gabzeril_tests::generate::*;
 use gabzeril_tests::largest;
@@ -351,18 +351,12 @@ fn note_refused(case: &mut Case, set: &Set) {
 /// A set of one rule answers what the calls on that rule do, refused or not.
 #[test]
 fn lists_of_devices() {
-    let calls = Calls {
-        part: |set, table, mode, part| ffi::set_part(&set.rules, &set.counts, table, mode, part),
-        join: ffi::join,
-        verdicts: |set, pool, verdicts| ffi::set_verdicts(&set.rules, &set.counts, pool, verdicts),
-        marks: ffi::marks,
-    };
     let limit = Together { rows: 24, cost: 8_000 };
     let tally = run("lists_of_devices_for_sets", 30_000, 30_000, |case| {
         let (set, devices) = set_and_devices(&mut case.random, limit);
         let set = if case.random.chance(1) { far_apart(&mut case.random, &set) } else { set };
         note_accepted(case, &set);
-        let result = check_list(&calls, &mut case.random, &set, &devices);
+        let result = check_list(&LIBRARY_ON_SETS, &mut case.random, &set, &devices);
         case.compared(result.is_ok(), Answer::Done(devices.len()), || {
             format!("{set:?} {devices:?}: {result:?}")
         });

@@ -9,9 +9,8 @@
 ))]
 
 use gabzeril_tests::answer::Answer;
-use gabzeril_tests::checker::{
-    check_table, devices_of, Format, LEAST_VALUE, MOST_VALUE, POOL, ROW_WORDS, RULE,
-};
+use gabzeril_tests::checker::{devices_of, Format, LEAST_VALUE, MOST_VALUE, POOL, RULE};
+use gabzeril_tests::compare::each_call::{each_file, each_on_words, each_part, mostly_one_device};
 use gabzeril_tests::compare::{calls, run, Case};
 use gabzeril_tests::ffi;
 use gabzeril_tests::generate::*;
@@ -63,64 +62,16 @@ fn every_call() {
 }
 
 fn each_call(case: &mut Case, rule: &[u32], pool: &[u32]) {
-    calls::check_rule(case, rule);
-    calls::check_table(case, pool);
-    calls::verdict(case, rule, pool);
-    let rows = pool.len() / ROW_WORDS;
-    let length = mostly_enough(&mut case.random, rows, rows);
-    let output = case.random.bytes(length);
-    calls::marks(case, rule, pool, &output);
-    each_part(case, rule, pool);
-    each_file(case, rule, pool);
-}
-
-/// Mostly of one device, if the table is accepted; else 14 would hide the parts.
-fn each_part(case: &mut Case, rule: &[u32], pool: &[u32]) {
-    let mut device = pool;
-    if check_table(pool).number() == 0 && !pool.is_empty() && case.random.chance(90) {
-        device = case.random.pick(&devices_of(pool));
-    }
-    if reading_cost(rule, device) > 10 * LIMIT.cost {
-        return;
-    }
-    // Where all rows are sent, nothing is refused.
-    if words_sent(rule, device, 1) > 0 && other_part(rule, device) {
-        case.note(OTHER_PART);
-    }
-    for mode in 1..=3 {
-        let length = mostly_enough(&mut case.random, device.len(), words_sent(rule, device, mode));
-        let output = case.random.words(length);
-        calls::part(case, rule, device, mode, &output);
-    }
-}
-
-/// One file in five is damaged before it is read.
-fn each_file(case: &mut Case, rule: &[u32], pool: &[u32]) {
-    let (mut rule_file, mut pool_file) = (RULE.text_of(rule), POOL.text_of(pool));
-    let length = mostly_enough(&mut case.random, rule_file.len(), rule_file.len());
-    let output = case.random.bytes(length);
-    calls::write_rule(case, rule, &output);
-    let length = mostly_enough(&mut case.random, pool_file.len(), pool_file.len());
-    let output = case.random.bytes(length);
-    calls::write_pool(case, pool, &output);
-    for file in [&mut rule_file, &mut pool_file] {
-        if case.random.chance(20) {
-            *file = damaged_file(&mut case.random, file);
+    each_on_words(case, rule, pool);
+    let device = mostly_one_device(case, pool);
+    if reading_cost(rule, device) <= 10 * LIMIT.cost {
+        // Where all rows are sent, nothing is refused.
+        if words_sent(rule, device, 1) > 0 && other_part(rule, device) {
+            case.note(OTHER_PART);
         }
+        each_part(case, rule, device);
     }
-    let length = mostly_enough(&mut case.random, rule.len() + 4, rule.len());
-    let output = case.random.words(length);
-    calls::read_rule(case, &rule_file, &output);
-    let length = mostly_enough(&mut case.random, pool.len() + ROW_WORDS, pool.len());
-    let output = case.random.words(length);
-    calls::read_pool(case, &pool_file, &output);
-    // A damage may leave both accepted, but far too long to evaluate.
-    if files_cost(&rule_file, &pool_file) <= 10 * LIMIT.cost {
-        calls::check_files(case, &rule_file, &pool_file);
-        let length = case.random.between(20, 80);
-        let output = case.random.bytes(length);
-        calls::report(case, &rule_file, &pool_file, &output);
-    }
+    each_file(case, rule, pool, 10 * LIMIT.cost);
 }
 
 /// Read, and written back byte for byte, with numbers of every width; the buffers just fit, and a byte less is 17.

@@ -41,6 +41,16 @@ module _ {A : Type 0} where
       go false true e k ih = absurd (true≢false (sym (h x k) ∙ e))
       go false false e k ih = ih
 
+  -- a selection from a selection: what passes both tests
+  pub select-both : (p w : A → Bool) (xs : List A) → select p (select w xs) ≡ select (λ x. w x && p x) xs
+  select-both p w [] = refl
+  select-both p w (x ∷ xs) = go (w x) (select-both p w xs)
+    where
+      go : (b : Bool) → select p (select w xs) ≡ select (λ y. w y && p y) xs
+          → select p (put b x (select w xs)) ≡ put (b && p x) x (select (λ y. w y && p y) xs)
+      go true ih = ap (put (p x) x) ih
+      go false ih = ih
+
   pub select-append : (p : A → Bool) (xs ys : List A) → select p (xs ++ ys) ≡ select p xs ++ select p ys
   select-append p [] ys = refl
   select-append p (x ∷ xs) ys = go (p x) (select-append p xs ys)
@@ -154,6 +164,16 @@ concatMap-sub f g h Sublistᴰ·slnil = Sublistᴰ·slnil
 concatMap-sub {A} f g h (Sublistᴰ·cons-cons {a = x} {l₁ = xs} {l₂ = ys} e s) =
     subst (λ (z : A). Sublistᴰ (f x ++ concatMap f xs) (g z ++ concatMap g ys)) e (sub-both (h x (List·Memᴰ·head refl)) (concatMap-sub f g (λ y m. h y (List·Memᴰ·tail m)) s))
 concatMap-sub f g h (Sublistᴰ·cons {a = x} s) = sub-before (g x) (concatMap-sub f g h s)
+
+-- a selection from a list's images
+pub select-map : {A B : Type 0} (f : A → B) (p : B → Bool) (xs : List A) → select p (map f xs) ≡ map f (select (λ x. p (f x)) xs)
+select-map f p [] = refl
+select-map f p (x ∷ xs) = go (p (f x)) (select-map f p xs)
+  where
+    go : (b : Bool) → select p (map f xs) ≡ map f (select (λ y. p (f y)) xs)
+        → put b (f x) (select p (map f xs)) ≡ map f (put b x (select (λ y. p (f y)) xs))
+    go true ih = ap (_∷_ (f x)) ih
+    go false ih = ih
 
 -- two functions that agree on a list's elements
 pub map-same : {A B : Type 0} (f g : A → B) (xs : List A) → ((x : A) → x ∈ xs → f x ≡ g x) → map f xs ≡ map g xs

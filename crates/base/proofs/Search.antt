@@ -1,7 +1,7 @@
 -- The one search law: a loop that looks for the first number below n at which a test holds, its invariant, kept by each turn, and what
 -- it says at each way out; and what a search that has ended tells. Assumes nothing.
 use Prim.Native.Nat.{ℕ, zero, suc, _+_, _-_, _≤_, _<_}
-use mathlib.Core.Path.{_≡_, sym, ap, _∙_}
+use mathlib.Core.Path.{_≡_, sym, ap, subst, _∙_}
 use mathlib.Core.Logic.{⊎-elim}
 use mathlib.Core.Bool.{Bool, true, false, cond, true≢false}
 use native.Mathlib.Nat.{eq-or-lt-of-le}
@@ -40,6 +40,37 @@ module _ (p : ℕ → Bool) (n : ℕ) where
       let w : i ≤ n = s .within in
       let e : n ≡ i = omega arith in
       sym (s .rest ∙ rw (z, ← e))
+
+-- the same for a loop that counts on from a number s, n numbers long
+module _ (p : ℕ → Bool) (s n : ℕ) where
+  pub record PassedOn (i : ℕ) : Type 0 where
+    pub from : s ≤ i
+    pub passed : Passed (λ j. p (s + j)) n (i - s)
+
+  at-number : (i : ℕ) → s ≤ i → p (s + (i - s)) ≡ p i
+  at-number i h = ap p (omega arith)
+
+  pub begin-on : PassedOn s
+  begin-on =
+      let z : s - s ≡ 0 = omega arith in
+      record { from = omega arith; passed = subst (Passed (λ j. p (s + j)) n) (sym z) (begin _ n) }
+
+  pub hit-on : (i : ℕ) → PassedOn i → i < s + n → p i ≡ true → i ≡ s + first (λ j. p (s + j)) n
+  hit-on i w h e =
+      let f = w .from in
+      let k = hit (λ j. p (s + j)) n (i - s) (w .passed) (omega arith) (at-number i f ∙ e) in omega (arith, k)
+
+  pub miss-on : (i : ℕ) → PassedOn i → i < s + n → p i ≡ false → PassedOn (i + 1)
+  miss-on i w h e =
+      let f = w .from in
+      let z : i + 1 - s ≡ i - s + 1 = omega arith in
+      record {
+        from = omega arith;
+        passed = subst (Passed (λ j. p (s + j)) n) (sym z) (miss (λ j. p (s + j)) n (i - s) (w .passed) (omega arith) (at-number i f ∙ e));
+      }
+
+  pub none-on : (i : ℕ) → PassedOn i → s + n ≤ i → s + n ≡ s + first (λ j. p (s + j)) n
+  none-on i w h = ap (_+_ s) (none (λ j. p (s + j)) n (i - s) (w .passed) (omega arith))
 
 from-le : (p : ℕ → Bool) (i n : ℕ) → firstFrom p i n ≤ i + n
 unfolding firstFrom

@@ -1,4 +1,5 @@
 pub mod Leaves
+pub mod Ranged
 pub mod Falls
 pub mod Bound
 pub mod Opened

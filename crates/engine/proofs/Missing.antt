@@ -53,13 +53,13 @@ module _ (t : List ℕ) (ok : acceptedTable t ≡ true) (row : ℕ) (b : Binding
   abbrev Reaches : ℕ → Type 0
   Reaches over = (i : ℕ) → OnWay t row i → i < rowCount t
       → there (reach (rows t) (overOf over) (x .c) (b .depth) K (rowAt t i)) ≡ true
-      → (rowAt t i .deep ≡ depthOf t (b .row) over) × (rowAt t i .deep ≤ b .depth) × (rowAt t i .name ≡ x .c)
+      → (rowAt t i .deep ≡ depthOf t (b .row) over) × (rowAt t i .deep ≤ b .depth) × (meaning.named (x .c) (rowAt t i) ≡ true)
 
   reaches-root : Reaches 0
   reaches-root i on h e =
       let both = there-when (root (rowAt t i) && meaning.named (x .c) (rowAt t i)) _ e .0 in
       let top : rowAt t i .deep ≡ 0 = tables.root-depth t (ordered t ok) i h (and-left (root (rowAt t i)) _ both) in
-      (top, omega (arith, top), eqb-true (rowAt t i .name) (x .c) (and-right (root (rowAt t i)) _ both))
+      (top, omega (arith, top), and-right (root (rowAt t i)) _ both)
 
   reaches-under : (v : ℕ) → v < b .depth → Reaches (suc v)
   reaches-under v low i on h e =
@@ -73,7 +73,7 @@ module _ (t : List ℕ) (ok : acceptedTable t ≡ true) (row : ℕ) (b : Binding
       let chain : there (K v (rowAt t (at .0))) ≡ true = subst (λ (p : Row). there (K v p) ≡ true) (at .2) (any-hit (λ y. true) (from .2) refl) in
       let k = known v (at .0) low (further on (at .1) is-parent) (at .1) chain in
       let deeper : rowAt t i .deep ≡ rowAt t (at .0) .deep + 1 = tables.child-depth t (ordered t ok) (at .0) i (at .1) h is-parent in
-      (deeper ∙ ap (depthUnder t) (sym (k .0)), omega (arith, deeper, k .1), eqb-true (rowAt t i .name) (x .c) (split .0))
+      (deeper ∙ ap (depthUnder t) (sym (k .0)), omega (arith, deeper, k .1), split .0)
 
   reaches : (over : ℕ) → over ≤ b .depth → Reaches over
   reaches zero h = reaches-root

@@ -17,8 +17,9 @@ use Rattle.tables.specs.Rules.{nestingLimit}
 use Rattle.tables.specs.Tables.{root, isParent, acceptedTable}
 use Rattle.tables.specs.declared.Row.{Row}
 use Rattle.tables.specs.declared.Entry.{Entry}
-use Rattle.tables.proofs.Accepted.{ordered, has-parent, behind}
+use Rattle.tables.proofs.Accepted.{ordered, has-parent}
 use Rattle.tables.proofs.Ordered as tables
+use Rattle.logic.specs.Verdict.{named}
 use Rattle.engine.specs.Touching.{OnWay, own, up, notedOnWay, WayUp, depthUnder, depthOf, Lands}
 use Rattle.engine.specs.declared.touching.Way.{Way}
 
@@ -208,12 +209,12 @@ module _ (t : List ℕ) (row : ℕ) (places : List ℕ) (e : Entry) {way : List 
     pub lands-inside : (place ≡ 0 → ⊥) → place - 1 < rowCount t
     lands-inside z = omega (arith, z, place-is, up .within deep)
 
-    pub lands-other : {r : Row} → r ≡ rowAt t (place - 1) → (r .name ≡ e .c → ⊥) → Lands t row places e 0
+    pub lands-other : {r : Row} → r ≡ rowAt t (place - 1) → named (e .c) r ≡ false → Lands t row places e 0
     lands-other {r} r-is other = record {
       within = omega arith;
       lands = λ i on d l n.
           let q : place - 1 ≡ i = omega (arith, here-is i on d l) in
-          absurd (other (ap (λ (x : Row). x .name) r-is ∙ ap (λ (k : ℕ). rowAt t k .name) q ∙ n));
+          absurd (true≢false (sym n ∙ ap (λ (k : ℕ). named (e .c) (rowAt t k)) (sym q) ∙ ap (named (e .c)) (sym r-is) ∙ other));
     }
 
     pub lands-there : Lands t row places e place

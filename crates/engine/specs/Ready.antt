@@ -1,14 +1,14 @@
 -- What the engine's private functions require and promise. A reader of the public contracts need not believe it. Assumes nothing.
-use Prim.Native.Nat.{ℕ, suc, _+_, _<_, _≤_}
+use Prim.Native.Nat.{ℕ, zero, suc, _+_, _<_, _≤_}
 use mathlib.Core.Path.{_≡_}
-use mathlib.Core.Bool.{Bool, true, not, cond}
+use mathlib.Core.Bool.{Bool, true, not, cond, _&&_}
 use mathlib.Core.List.{List}
 use lib.ListN.{length, getD}
 use lib.Dec.{eqb}
 use Rattle.base.specs.Lists.{select}
 use Rattle.tables.specs.Words.{rowAt, rowCount, rows, rowsFrom, entryAt, entryCount}
 use Rattle.tables.specs.Rules.{nestingLimit, around, acceptedRule}
-use Rattle.tables.specs.Tables.{acceptedTable}
+use Rattle.tables.specs.Tables.{root, isParent, acceptedTable}
 use Rattle.tables.specs.declared.Row.{Row}
 use Rattle.tables.specs.declared.Entry.{Entry}
 use Rattle.logic.specs.Formulas.{Quantifier, every, some, Connective, and, or, implies, Comparison, equal, less, atMost, overOf, operandOf, formulaAt}
@@ -40,6 +40,21 @@ meant pool b = bindingsOf pool (b .row)
 -- a comparison's entry holds
 abbrev pub comparedAt : List ℕ → Bindings → Entry → Bool
 comparedAt pool b e = meaning.compare (comparisonOf (e .kind)) (meaning.valueAt (meant pool b (e .a))) (meaning.valueOf (meant pool b) (operandOf (e .b) (e .c)))
+
+-- the place that b of a quantifier names: 0 for roots, and where its variable has nothing, else 1 + the parent's number
+abbrev pub placeUnder : List ℕ → ℕ → ℕ
+placeUnder places zero = 0
+placeUnder places (suc v) = getD places v 0
+
+-- a row is a root, where the place is 0, or hangs under the row at that place. 0 means roots here: whoever asks for a variable's rows
+-- asks first whether it has one
+abbrev pub hangsAt : List ℕ → ℕ → Row → Bool
+hangsAt pool zero r = root r
+hangsAt pool (suc p) r = isParent r (rowAt pool p)
+
+-- a quantifier over such rows ranges over row i
+abbrev pub rangedAt : List ℕ → ℕ → ℕ → ℕ → Bool
+rangedAt pool place n i = hangsAt pool place (rowAt pool i) && meaning.named n (rowAt pool i)
 
 -- a quantifier's entry ranges over a row
 abbrev pub rangesAt : List ℕ → Bindings → Entry → Row → Bool

@@ -13,6 +13,7 @@ use Rattle.tables.specs.Tables.{isParent}
 use Rattle.tables.specs.declared.Entry.{Entry}
 use Rattle.sets.specs.Sets.{setLimit, ruleAt}
 use Rattle.logic.specs.Formulas.{formula, formulaAt}
+use Rattle.logic.specs.Verdict.{named}
 use Rattle.logic.specs.Parts.{Chains, reachedIn, reached}
 use Rattle.engine.specs.declared.bindings.Bindings.{Bindings}
 use Rattle.engine.specs.declared.touching.Way.{Way}
@@ -49,7 +50,7 @@ depthOf t places (suc v) = depthUnder t (getD places v 0)
 pub record Lands (t : List ℕ) (row : ℕ) (places : List ℕ) (e : Entry) (place : ℕ) : Type 0 where
   pub within : place ≤ rowCount t
   pub lands : (i : ℕ) → OnWay t row i → rowAt t i .deep ≡ depthOf t places (e .b) → rowAt t i .deep < nestingLimit
-      → rowAt t i .name ≡ e .c → place ≡ suc i
+      → named (e .c) (rowAt t i) ≡ true → place ≡ suc i
 
 -- ---- an entry
 -- a variable whose quantifier reaches a row on the way has that row's place, and the row isn't deeper than the variable's number

@@ -17,4 +17,5 @@ pub use calls::marks;
 pub use calls::set_verdicts;
 pub use calls::verdict;
 pub use comparisons::compare_values;
+pub use ranges::is_named;
 pub use trying::try_plan;

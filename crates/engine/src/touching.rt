@@ -1,5 +1,6 @@
 // Whether a rule has a quantifier that reaches a row. Where it has none, a change of that row leaves its verdict.
 use super::bindings::Bindings;
+use super::ranges::is_named;
 use super::verdicts::one_if;
 use super::words::entry_at;
 use super::words::place_of;
@@ -100,10 +101,10 @@ fn place_on_way(pool: &[u32], way: Way, b: Bindings, e: Entry) -> usize
     if place == 0 {
         return 0;
     }
-    if row_at(pool, place - 1).name != e.c {
-        return 0;
+    if is_named(e.c, row_at(pool, place - 1)) {
+        return place;
     }
-    place
+    0
 }
 
 // Whether some quantifier of an entry reaches the row from which the way goes up. Each variable is bound to the row on the way that its

@@ -1,4 +1,5 @@
 pub mod Words
+pub mod Names
 pub mod Folds
 pub mod Sound
 pub mod Verdict

@@ -29,7 +29,7 @@ noChains v r = []
 abbrev pub chainsWith : ℕ → (Row → List Bindings) → Chains → Chains
 chainsWith x f K v = cond (eqb v x) f (K v)
 
--- a quantifier reaches a row with its name that is a root, or whose parent is reached by the quantifier that binds the variable
+-- a quantifier reaches a row that passes its name test and is a root, or whose parent is reached by the quantifier that binds the variable
 -- named in b. The variables along that chain are bound to the row and its ancestors, and all others are elsewhere.
 abbrev pub reach : List Row → Over → ℕ → ℕ → Chains → Row → List Bindings
 reach D roots n d K r = when (root r && named n r) (bind d (bound r) noneBound ∷ [])

@@ -8,7 +8,7 @@ use Rattle.base.specs.Lists.{select}
 use Rattle.tables.specs.Answers.{andThen, fitting, output}
 use Rattle.tables.specs.Words.{rows}
 use Rattle.tables.specs.Values.{isLess, isAtMost}
-use Rattle.tables.specs.Rules.{one, checkRule}
+use Rattle.tables.specs.Rules.{one, anyName, checkRule}
 use Rattle.tables.specs.Tables.{root, isParent, checkTable}
 use Rattle.tables.specs.declared.Row.{Row}
 use Rattle.tables.specs.declared.Answer.{Answer}
@@ -53,16 +53,16 @@ connect or a b = a || b
 connect implies a b = not a || b
 
 -- ---- quantifiers
--- a quantifier's name test
-abbrev pub named : ℕ → Row → Bool
-named n r = eqb (r .name) n
+-- a quantifier's name test: any name (02, wish 2), or its own
+unfoldable pub named : ℕ → Row → Bool
+named n r = eqb n anyName || eqb (r .name) n
 
 -- the row's parent is the bound row
 abbrev pub hangs : Place → Row → Bool
 hangs nothing r = false
 hangs (bound p) r = isParent r p
 
--- a quantifier ranges over the rows with its name that are roots, or whose parent is the bound row
+-- a quantifier ranges over the rows that pass its name test and are roots, or whose parent is the bound row
 abbrev pub ranges : Over → ℕ → Bindings → Row → Bool
 ranges roots n b r = root r && named n r
 ranges (under v) n b r = hangs (b v) r && named n r

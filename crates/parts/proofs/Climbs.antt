@@ -93,14 +93,14 @@ module _ (rule t parents by : List ℕ) (d e i : ℕ) (ready : ReadyClimb rule t
       placed-d = record { sized = placed .sized; shallow = omega (arith, ready .limit); kept = placed .kept }
 
   module _ (x : Entry) (x-is : x ≡ entryAt rule e) (r : Row) (r-is : r ≡ rowAt t i) where
-    pub climb-other : (r .name ≡ x .c → ⊥) → (c : Chain) → c ≡ notReached → Climbed rule t by d e i c
+    pub climb-other : meaning.named (x .c) r ≡ false → (c : Chain) → c ≡ notReached → Climbed rule t by d e i c
     climb-other h = unreached
         (ap₂ (λ (z : Entry) (w : Row). reach (rows t) (overOf (z .b)) (z .c) d (chainsBelow rule t by d) w) (sym x-is) (sym r-is)
-        ∙ unnamed (rows t) (overOf (x .b)) (x .c) d (chainsBelow rule t by d) r (ne-eqb (r .name) (x .c) h))
+        ∙ unnamed (rows t) (overOf (x .b)) (x .c) d (chainsBelow rule t by d) r h)
 
-    module _ (same : r .name ≡ x .c) where
+    module _ (same : meaning.named (x .c) r ≡ true) where
       is-named : meaning.named (x .c) (rowAt t i) ≡ true
-      is-named = ap (meaning.named (x .c)) (sym r-is) ∙ eq-eqb (r .name) (x .c) same
+      is-named = ap (meaning.named (x .c)) (sym r-is) ∙ same
 
       -- over roots
       module _ (z : x .b ≡ 0) where

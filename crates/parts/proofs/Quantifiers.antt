@@ -19,12 +19,12 @@ use Rattle.logic.specs.Reading as meaning
 use Rattle.logic.proofs.Walks.{select-span}
 use Rattle.logic.proofs.Monotone.{one-way, roots-settled, roots-decided, elsewhere-settled, elsewhere-decided}
 use Rattle.engine.specs.Places.{bindAt}
-use Rattle.engine.specs.Ready.{quantifierOf, meant, rangesAt, Ready, ReadyRows, rangedFrom}
+use Rattle.engine.specs.Ready.{quantifierOf, meant, rangesAt, Ready, ReadyRows, rangedFrom, placeUnder}
 use Rattle.engine.specs.declared.bindings.Bindings.{Bindings}
 use Rattle.engine.proofs.Falls.{entry-measure, below, falls-rows}
 use Rattle.engine.proofs.Opened.{quantified-formula}
 use Rattle.engine.proofs.Steps as entries
-use Rattle.parts.specs.Device.{placeUnder, readsAt, bodyAt, sweepsAt}
+use Rattle.parts.specs.Device.{readsAt, bodyAt, sweepsAt}
 use Rattle.parts.specs.Reaching.{Ends}
 use Rattle.parts.proofs.Asking.{first-test-by-rows}
 use Rattle.parts.proofs.Spans.{at-nothing, at-row}

@@ -1,6 +1,6 @@
 -- One law for each way through the reading on a device and its row walk. What the entry's readiness fixes is left to inference. Assumes
 -- nothing.
-use Prim.Native.Nat.{ℕ, zero, suc, _+_, _-_, _<_, _≤_}
+use Prim.Native.Nat.{ℕ, _+_, _-_, _<_, _≤_}
 use mathlib.Core.Path.{_≡_, sym, ap, ap₂, subst, fun-ext, _∙_}
 use mathlib.Core.Bool.{Bool, true, false, not, Bool·beq}
 use mathlib.Core.List.{List}
@@ -15,15 +15,15 @@ use Rattle.logic.specs.Formulas.{Quantifier, formulaAt}
 use Rattle.logic.specs.Verdict.{Place, settled}
 use Rattle.logic.specs.Reading as meaning
 use Rattle.engine.specs.Places.{bindAt, placeOf}
-use Rattle.engine.specs.Ready.{quantifierOf, Placed, meant, rangesAt, Ready, ReadyRows, rangedFrom}
+use Rattle.engine.specs.Ready.{quantifierOf, Placed, meant, rangesAt, Ready, ReadyRows, rangedFrom, placeUnder, rangedAt}
 use Rattle.engine.specs.declared.bindings.Bindings.{Bindings}
 use Rattle.engine.proofs.Bound.{place-row}
 use Rattle.engine.proofs.Falls.{entry-measure, rows-measure, below, falls-child, falls-body, falls-part}
 use Rattle.engine.proofs.Opened.{Opened, not-formula, joined-formula, compared-formula}
 use Rattle.engine.proofs.Steps as entries
-use Rattle.parts.specs.Device.{placeUnder, rangedAt, comparedAt, readsAt, bodyAt, sweepsAt, ReadySweep}
+use Rattle.parts.specs.Device.{comparedAt, readsAt, bodyAt, sweepsAt, ReadySweep}
 use Rattle.parts.proofs.Asking.{together, goes-on, stops, reads-not, reads-connect, reads-none, under-append, under-one}
-use Rattle.parts.proofs.Spans.{ranges-place}
+use Rattle.engine.proofs.Ranged.{ranges-place}
 
 -- ---- what a call within the cycle rests on: its falling number is below m, and what it is called for can be read
 abbrev pub ReadsCall : List ℕ → List ℕ → Bindings → ℕ → ℕ → Type 0
@@ -168,10 +168,6 @@ sweep-part {rule} {t} {b} {e} {i} {k} ready i′ k′ h = record { ready = entri
 pub part-call : {rule t : List ℕ} {b : Bindings} {e i k : ℕ} → ReadySweep rule t b e i k → (i′ k′ : ℕ) → i′ + k′ ≤ rowCount t → k′ < k
     → {m : ℕ} → rows-measure rule t e k ≡ m → SweepCall rule t b e i′ k′ m
 part-call {rule} {t} {b} {e} {i} {k} ready i′ k′ h l m-is = (below m-is (falls-part (entryCount rule) (rowCount t) e 0 k′ k l), sweep-part ready i′ k′ h)
-
-pub place-inside : (t : List ℕ) (b : Bindings) → Placed t b → (u p : ℕ) → p ≡ placeUnder (b .row) u → p ≤ rowCount t
-place-inside t b placed zero p e = omega arith
-place-inside t b placed (suc v) p e = omega (arith, placed .kept v)
 
 -- the row that the search by the parent's place finds is the first one ranged over
 pub first-ranged : {rule t : List ℕ} {b : Bindings} {e i k : ℕ} → ReadySweep rule t b e i k → {x : Entry} → x ≡ entryAt rule e → {p r : ℕ} → p ≡ placeUnder (b .row) (x .b)

@@ -1,32 +1,16 @@
 -- What the private functions of the device's side require and promise of a reading. A reader of the public contract need not believe it.
 -- Assumes nothing.
-use Prim.Native.Nat.{ℕ, zero, suc, _<_}
-use mathlib.Core.Bool.{Bool, _&&_}
+use Prim.Native.Nat.{ℕ, _<_}
+use mathlib.Core.Bool.{Bool}
 use mathlib.Core.List.{List}
-use lib.ListN.{getD}
-use Rattle.tables.specs.Words.{rowAt, rows, entryAt}
-use Rattle.tables.specs.Tables.{root, isParent}
+use Rattle.tables.specs.Words.{rows, entryAt}
 use Rattle.tables.specs.declared.Entry.{Entry}
 use Rattle.logic.specs.Formulas.{operandOf, formulaAt}
-use Rattle.logic.specs.Verdict.{Place, named}
+use Rattle.logic.specs.Verdict.{Place}
 use Rattle.logic.specs.Reading as meaning
 use Rattle.logic.specs.Elsewhere.{bodyReading}
-use Rattle.engine.specs.Ready.{ReadyRows, meant, rangedFrom, quantifierOf, comparisonOf}
+use Rattle.engine.specs.Ready.{placeUnder, ReadyRows, meant, rangedFrom, quantifierOf, comparisonOf}
 use Rattle.engine.specs.declared.bindings.Bindings.{Bindings}
-
--- ---- what a quantifier ranges over
--- the place that b of a quantifier names: 0 for roots or elsewhere, else 1 + the parent's number
-abbrev pub placeUnder : List ℕ → ℕ → ℕ
-placeUnder places zero = 0
-placeUnder places (suc v) = getD places v 0
-
--- it ranges over row i, its parent being at that place
-abbrev pub hangsAt : List ℕ → ℕ → ℕ → Bool
-hangsAt t zero i = root (rowAt t i)
-hangsAt t (suc p) i = isParent (rowAt t i) (rowAt t p)
-
-abbrev pub rangedAt : List ℕ → ℕ → ℕ → ℕ → Bool
-rangedAt t place n i = hangsAt t place i && named n (rowAt t i)
 
 -- ---- an entry
 -- a comparison's reading

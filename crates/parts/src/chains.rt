@@ -2,6 +2,7 @@
 use super::words::entry_at;
 use super::words::row_at;
 use engine::Bindings;
+use engine::is_named;
 ghost use mathlib.Core.Path.{_≡_};
 ghost use Prim.Native.Nat.{_<_};
 ghost use lib.ListN.{getD};
@@ -91,7 +92,7 @@ pub(crate) fn climb(
 {
     let e = entry_at(rule, entry);
     let r = row_at(table, row);
-    if r.name != e.c {
+    if !is_named(e.c, r) {
         return not_reached();
     }
     if e.b == 0 {

@@ -1,18 +1,18 @@
 -- The published truth of a rule on an accepted table is the verdict on its rows. Assumes nothing.
 use Prim.Native.Nat.{ℕ, suc, _≤_, _<_}
 use native.Mathlib.Omega.{arith}
-use mathlib.Core.Path.{_≡_, refl, sym, ap, ap₂, subst, _∙_}
-use mathlib.Core.Bool.{Bool, true, false, not, cond, _&&_, _||_}
-use mathlib.Core.List.{List, [], _∷_, _++_, map, append-nil, append-assoc, List·Memᴰ·head, List·Memᴰ·tail}
+use mathlib.Core.Path.{_≡_, refl, sym, ap, ap₂, fun-ext, _∙_}
+use mathlib.Core.Bool.{Bool, true, false, not, cond, _&&_}
+use mathlib.Core.List.{List, [], _∷_, _++_, map, map-map, append-nil, append-assoc, List·Memᴰ·head, List·Memᴰ·tail}
 use lib.ListN.{length, drop, replicate, length-replicate, drop-of-length-le}
 use lib.Dec.{eqb, ltb, leb}
 use borrow.Author.Tests.{eqb-true, eqb-false, eq-eqb, ltb-true, le-leb}
 use Rattle.base.specs.Lists.{_∈_, select, all, any}
 use Rattle.base.proofs.Bools.{and-left, and-right, and-both, or-second}
-use Rattle.base.proofs.Lists.{select-out}
+use Rattle.base.proofs.Lists.{select-out, select-both, select-all, select-map}
 use Rattle.tables.specs.Answers.{andThen, fitting, output}
 use Rattle.tables.specs.Words.{rows}
-use Rattle.tables.specs.Rules.{one, checkRule, acceptedRule}
+use Rattle.tables.specs.Rules.{one, anyName, checkRule, acceptedRule}
 use Rattle.tables.specs.Tables.{root, checkTable, acceptedTable}
 use Rattle.tables.specs.declared.Row.{Row}
 use Rattle.tables.specs.declared.Answer.{Answer}
@@ -22,14 +22,18 @@ use Rattle.tables.proofs.Accepted.{parent-device, parent-at}
 use Rattle.sets.specs.Sets.{rulesOf, acceptedSet}
 use Rattle.sets.proofs.Sets.{rule-accepted}
 use Rattle.logic.specs.Formulas.{Formula, negation, joined, quantified, compared, Connective, and, or, implies, Quantifier, every, some, Comparison, equal, less, atMost, Over, roots, under, Operand, variable, constant, formula, formulasOf}
-use Rattle.logic.specs.Verdict.{connect, compare, Place, bound, Bindings, noneBound, bind, named, hangs, ranges, fold, valueAt, valueOf, holds, verdict, verdictAnswer, verdictBytes, setVerdictsAnswer, setVerdictsOut}
+use Rattle.logic.specs.Verdict.{connect, compare, Place, bound, Bindings, noneBound, bind, named, hangs, ranges, settled, both, fold}
+use Rattle.logic.specs.Verdict.{valueAt, valueOf, holds, verdict, verdictAnswer, verdictBytes, setVerdictsAnswer, setVerdictsOut}
 use Rattle.logic.specs.Trial.{trialOutcome, stateAt, bytesOf}
+use Rattle.logic.proofs.Names.{any-name, own-name}
 use Rattle.logic.proofs.Calls.{verdict-count, verdicts-are, bytes-are}
 use Rattle.logic.proofs.Trials.{begun-set, trials}
-use Rattle.published.specs.Published.{Tree, CL, Path, _is_, v, _⊨_}
-use Rattle.published.specs.Stated.{Standing, Standings, noStanding, stand, pathTo, term, connective, quantifier, comparison, stated, treeOf, tree, published, Agreed, Answered, SetAnswered, TrialAnswered}
+use Rattle.published.specs.Published.{Tree, CL, Pair, Path, _is_, pairs, v, _⊨_}
+use Rattle.published.specs.Stated.{Standing, Standings, noStanding, stand, pathTo, term, connective, overNamed, overAny, quantifier, comparison}
+use Rattle.published.specs.Stated.{stated, treeOf, tree, published, Agreed, Answered, SetAnswered, TrialAnswered}
 use Rattle.published.proofs.Rows.{Fit, fit}
-use Rattle.published.proofs.Descent.{child, values, Siblings, step}
+use Rattle.published.proofs.Table.{v-is}
+use Rattle.published.proofs.Descent.{child, pairOf, at-top, Siblings, step}
 use Rattle.published.proofs.Scoped.{scoped, overBound, operandBound, rule-scoped}
 
 root-siblings : Siblings root
@@ -45,20 +49,66 @@ child-siblings p r s e h n k =
     (eq-eqb (s .name) (r .name) (sym n)))
     (eq-eqb (s .value) (r .value) (sym k))
 
--- ---- each kind of formula, on values and on rows
-quantifier-is : (q : Quantifier) (T : Tree) (path : Path) (p : ℕ) (φ : ℕ → CL) (g : Row → Bool) (rs : List Row)
-    → v T path p ≡ map (λ r. r .value) rs → ((r : Row) → r ∈ rs → (T ⊨ φ (r .value)) ≡ g r) → (T ⊨ quantifier q path p φ) ≡ fold q g rs
+-- ---- each kind of formula, on pairs and on rows
+-- a quantifier's truth from its body's
+abbrev truth : {A : Type 0} → Quantifier → (A → Bool) → List A → Bool
+truth every f xs = all f xs
+truth some f xs = any f xs
+
+truth-none : {A : Type 0} (q : Quantifier) (f : A → Bool) → truth q f [] ≡ settled q
+truth-none every f = refl
+truth-none some f = refl
+
+truth-more : {A : Type 0} (q : Quantifier) (f : A → Bool) (x : A) (xs : List A) → truth q f (x ∷ xs) ≡ both q (f x) (truth q f xs)
+truth-more every f x xs = refl
+truth-more some f x xs = refl
+
+-- of elements that rows have, by what the body is at each row
+truth-is : {A : Type 0} (q : Quantifier) (h : Row → A) (f : A → Bool) (g : Row → Bool) (rs : List Row) → ((r : Row) → r ∈ rs → f (h r) ≡ g r)
+    → truth q f (map h rs) ≡ fold q g rs
+truth-is q h f g [] k = truth-none q f
+truth-is q h f g (r ∷ rs) k =
+    truth-more q f (h r) (map h rs)
+    ∙ ap₂ (both q) (k r (List·Memᴰ·head refl)) (truth-is q h f g rs (λ s m. k s (List·Memᴰ·tail m)))
+
+named-is : (q : Quantifier) (T : Tree) (path : Path) (p : ℕ) (φ : ℕ → CL) → (T ⊨ overNamed q path p φ) ≡ truth q (λ k. T ⊨ φ k) (v T path p)
 unfolding _⊨_
-quantifier-is every T path p φ g rs e h = rw e (go rs h)
+named-is every T path p φ = refl
+named-is some T path p φ = refl
+
+any-name-is : (q : Quantifier) (T : Tree) (path : Path) (φ : Pair → CL) → (T ⊨ overAny q path φ) ≡ truth q (λ x. T ⊨ φ x) (pairs T path)
+unfolding _⊨_
+any-name-is every T path φ = refl
+any-name-is some T path φ = refl
+
+-- the values under a name are those of the rows that have it
+values-are : (T : Tree) (path : Path) (n : ℕ) (rs : List Row) → pairs T path ≡ map pairOf rs
+    → v T path n ≡ map (λ r. r .value) (select (λ r. eqb (r .name) n) rs)
+values-are T path n rs e =
+    v-is T path n ∙ ap (λ (xs : List Pair). map (λ (x : Pair). x .value) (select (λ (x : Pair). eqb (x .name) n) xs)) e
+    ∙ ap (map (λ (x : Pair). x .value)) (select-map pairOf (λ (x : Pair). eqb (x .name) n) rs)
+    ∙ map-map (λ (x : Pair). x .value) pairOf (select (λ (r : Row). eqb (r .name) n) rs)
+
+-- with a name or with any, it ranges over the rows at the end of the path that pass its name test
+quantifier-is : (q : Quantifier) (T : Tree) (path : Path) (n : ℕ) (φ : Pair → CL) (g : Row → Bool) (rs : List Row)
+    → pairs T path ≡ map pairOf rs → ((r : Row) → r ∈ select (named n) rs → (T ⊨ φ (pairOf r)) ≡ g r)
+    → (T ⊨ quantifier q path n φ) ≡ fold q g (select (named n) rs)
+quantifier-is q T path n φ g rs e h = go (eqb n anyName) refl
   where
-    go : (xs : List Row) → ((r : Row) → r ∈ xs → (T ⊨ φ (r .value)) ≡ g r) → all (λ k. T ⊨ φ k) (map (λ r. r .value) xs) ≡ fold every g xs
-    go [] k = refl
-    go (x ∷ xs) k = ap₂ _&&_ (k x (List·Memᴰ·head refl)) (go xs (λ s m. k s (List·Memᴰ·tail m)))
-quantifier-is some T path p φ g rs e h = rw e (go rs h)
-  where
-    go : (xs : List Row) → ((r : Row) → r ∈ xs → (T ⊨ φ (r .value)) ≡ g r) → any (λ k. T ⊨ φ k) (map (λ r. r .value) xs) ≡ fold some g xs
-    go [] k = refl
-    go (x ∷ xs) k = ap₂ _||_ (k x (List·Memᴰ·head refl)) (go xs (λ s m. k s (List·Memᴰ·tail m)))
+    go : (b : Bool) → eqb n anyName ≡ b
+        → (T ⊨ cond b (overAny q path φ) (overNamed q path n (λ k. φ (n is k)))) ≡ fold q g (select (named n) rs)
+    go true k =
+        let whole = select-all (named n) rs (λ r m. any-name n r k) in
+        any-name-is q T path φ ∙ ap (truth q (λ x. T ⊨ φ x)) (e ∙ ap (map pairOf) (sym whole))
+        ∙ truth-is q pairOf (λ x. T ⊨ φ x) g _ h
+    go false k =
+        let own = fun-ext (λ r. own-name n r k) in
+        let its-name : (r : Row) → r ∈ select (named n) rs → r .name ≡ n =
+        λ r m. eqb-true (r .name) n (sym (own-name n r k) ∙ select-out (named n) rs m .1) in
+        named-is q T path n (λ z. φ (n is z))
+        ∙ ap (truth q (λ z. T ⊨ φ (n is z)))
+        (values-are T path n rs e ∙ ap (λ (t : Row → Bool). map (λ (r : Row). r .value) (select t rs)) (sym own))
+        ∙ truth-is q (λ r. r .value) (λ z. T ⊨ φ (n is z)) g _ (λ r m. ap (λ p. T ⊨ φ (p is r .value)) (sym (its-name r m)) ∙ h r m)
 
 connective-is : (c : Connective) (T : Tree) (φ ψ : CL) → (T ⊨ connective c φ ψ) ≡ connect c (T ⊨ φ) (T ⊨ ψ)
 unfolding _⊨_
@@ -75,7 +125,7 @@ comparison-is atMost T k₁ k₂ = refl
 module _ (T : List Row) (f : Fit T) where
   -- the path leads to the rows that pass the test
   abbrev Leads : Path → (Row → Bool) → Type 0
-  Leads path t = (on : Path) (p : ℕ) → v (tree T) (path ++ on) p ≡ v (treeOf t T) on p
+  Leads path t = (on : Path) → pairs (tree T) (path ++ on) ≡ pairs (treeOf t T) on
 
   -- a variable's row has its value, and its path leads to the rows that hang under it
   record Stands (s : Standing) (at : Place) : Type 0 where
@@ -96,31 +146,31 @@ module _ (T : List Row) (f : Fit T) where
 
   range : (o : Over) (d : ℕ) (e : Standings) (b : Bindings) → overBound o d ≡ true → Agreeing d e b → Range o e b
   unfolding tree
-  range roots d e b s g = record { test = root; leads = λ on p. refl; ranged = λ n. refl; siblings = root-siblings }
+  range roots d e b s g = record { test = root; leads = λ on. refl; ranged = λ n. refl; siblings = root-siblings }
   range (under x) d e b s g =
       let w = g x (ltb-true x d s) in
       record { test = child (w .row); leads = w .leads; ranged = λ n. ap {B = Row → Bool} (λ (at : Place) (r : Row). hangs at r && named n r) (w .binds); siblings = child-siblings (w .row) }
 
-  found : (o : Over) (n : ℕ) (e : Standings) (b : Bindings) → Range o e b → v (tree T) (pathTo o e) n ≡ map (λ r. r .value) (select (ranges o n b) T)
-  found o n e b w =
-      ap (λ (path : Path). v (tree T) path n) (sym (append-nil (pathTo o e))) ∙ w .leads [] n ∙ values (w .test) n T
-      ∙ ap (λ (t : Row → Bool). map (λ (r : Row). r .value) (select t T)) (sym (w .ranged n))
+  found : (o : Over) (e : Standings) (b : Bindings) (w : Range o e b) → pairs (tree T) (pathTo o e) ≡ map pairOf (select (w .test) T)
+  found o e b w = ap (pairs (tree T)) (sym (append-nil (pathTo o e))) ∙ w .leads [] ∙ at-top (w .test) T
 
-  stands : (o : Over) (n d : ℕ) (e : Standings) (b : Bindings) → Range o e b → Agreeing d e b
-      → (r : Row) → r ∈ select (ranges o n b) T → Agreeing (suc d) (stand d (pathTo o e) n (r .value) e) (bind d (bound r) b)
-  stands o n d e b w g r m x l = go (eqb x d) refl
+  -- its rows: those at the end of its path that pass the name test
+  ranged-rows : (o : Over) (n : ℕ) (e : Standings) (b : Bindings) (w : Range o e b) → select (ranges o n b) T ≡ select (named n) (select (w .test) T)
+  ranged-rows o n e b w = ap (λ (t : Row → Bool). select t T) (w .ranged n) ∙ sym (select-both (named n) (w .test) T)
+
+  stands : (o : Over) (d : ℕ) (e : Standings) (b : Bindings) (w : Range o e b) → Agreeing d e b
+      → (r : Row) → r ∈ select (w .test) T → Agreeing (suc d) (stand d (pathTo o e) (pairOf r) e) (bind d (bound r) b)
+  stands o d e b w g r m x l = go (eqb x d) refl
     where
       path : Path
-      path = pathTo o e ++ (n is r .value) ∷ []
-
-      in-range : (r ∈ T) × ((w .test r && named n r) ≡ true)
-      in-range = select-out (λ (z : Row). w .test z && named n z) T (subst (λ (t : Row → Bool). r ∈ select t T) (w .ranged n) m)
+      path = pathTo o e ++ pairOf r ∷ []
 
       leads : Leads path (child r)
-      leads on p =
-          ap (λ (path : Path). v (tree T) path p) (append-assoc (pathTo o e) ((n is r .value) ∷ []) on)
-          ∙ w .leads ((n is r .value) ∷ on) p
-          ∙ step T f (w .test) (w .siblings) n r (in-range .0) (and-left (w .test r) (named n r) (in-range .1)) (eqb-true (r .name) n (and-right (w .test r) _ (in-range .1))) on p
+      leads on =
+          let i = select-out (w .test) T m in
+          ap (pairs (tree T)) (append-assoc (pathTo o e) (pairOf r ∷ []) on)
+          ∙ w .leads (pairOf r ∷ on)
+          ∙ step T f (w .test) (w .siblings) r (i .0) (i .1) on
 
       go : (c : Bool) → eqb x d ≡ c → Stands (cond c (record { path = path; value = r .value }) (e x)) (cond c (bound r) (b x))
       go true k = record { row = r; binds = refl; value = refl; leads = leads }
@@ -142,8 +192,10 @@ module _ (T : List Row) (f : Fit T) where
       ∙ ap₂ (connect c) (agree φ d e b (and-left _ (scoped ψ d) s) g) (agree ψ d e b (and-right (scoped φ d) _ s) g)
   agree (quantified q o n φ) d e b s g =
       let w = range o d e b (and-left (overBound o d) (scoped φ (suc d)) s) g in
-      quantifier-is q (tree T) (pathTo o e) n _ _ (select (ranges o n b) T) (found o n e b w)
-      (λ r m. agree φ (suc d) (stand d (pathTo o e) n (r .value) e) (bind d (bound r) b) (and-right (overBound o d) _ s) (stands o n d e b w g r m))
+      quantifier-is q (tree T) (pathTo o e) n _ _ (select (w .test) T) (found o e b w)
+      (λ r m. agree φ (suc d) (stand d (pathTo o e) (pairOf r) e) (bind d (bound r) b) (and-right (overBound o d) _ s)
+      (stands o d e b w g r (select-out (named n) _ m .0)))
+      ∙ ap (fold q (λ r. holds φ T (suc d) (bind d (bound r) b))) (sym (ranged-rows o n e b w))
   agree (compared c x y) d e b s g =
       comparison-is c (tree T) (e x .value) (term e y)
       ∙ ap₂ (compare c) (sym (value-is (g x (ltb-true x d (and-left _ (operandBound y d) s))))) (sym (term-is y d e b (and-right (ltb x d) _ s) g))

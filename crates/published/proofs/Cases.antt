@@ -10,20 +10,24 @@ use Rattle.tables.specs.Files.{scanAll, wordsFrom, startsWith, readWords, check
 use Rattle.sets.specs.Sets.{rulesFrom, ruleByRule, checkSet}
 use Rattle.plans.specs.Plans.{stepsFrom, stepPlace, tableAfter}
 use Rattle.logic.specs.Formulas.{formulas, formulaAt}
-use Rattle.logic.specs.Verdict.{holds, verdict, verdictAnswer, setVerdictsAnswer, setVerdictsOut}
+use Rattle.logic.specs.Verdict.{named, holds, verdict, verdictAnswer, setVerdictsAnswer, setVerdictsOut}
 use Rattle.logic.specs.Marks.{reason, marked, marksAnswer, marksOut}
 use Rattle.logic.specs.Reading.{reading}
 use Rattle.logic.specs.Parts.{reachedIn, reached, spareIn, spare, reachedByAny, spareForEach, lineage, ancestors, partBy}
 use Rattle.logic.specs.Parts.{branchPart, fullPart, partOf, sendAnswer, sendOut}
 use Rattle.logic.specs.Trial.{stepAnswer, trySteps, beginAnswer}
-use Rattle.published.specs.Published.{v, _⊨_}
+use Rattle.published.specs.Published.{pairs, v, _⊨_}
 use Rattle.published.specs.Stated.{stated, treeOf, tree, published}
-use Rattle.published.specs.Cases.{right, cases, Worked, constraint1, addresses, AsPrinted}
+use Rattle.published.specs.Cases.{right, cases, Worked, constraint1, addresses, AsPrinted, noneIsZero, eachHasOne, WithAnyName}
 
 pub worked : Worked
-unfolding firstFrom sumBelow rowsFrom aroundFrom entryFault checkRule rowFault checkTable rulesFrom ruleByRule checkSet joinTables joinAnswer joinPool digitOf byteAfter digitsUpTo wordText textFrom writeText digitStep otherStep stepOf scanAll wordsFrom startsWith readWords checkFile readAnswer readOut writeAnswer writeOut formulas formulaAt holds verdict verdictAnswer setVerdictsAnswer setVerdictsOut reason marked marksAnswer marksOut reading reachedIn reached spareIn spare reachedByAny spareForEach lineage ancestors partBy branchPart fullPart partOf sendAnswer sendOut stepsFrom stepPlace tableAfter stepAnswer trySteps beginAnswer v _⊨_ stated treeOf tree published right cases
+unfolding firstFrom sumBelow rowsFrom aroundFrom entryFault checkRule rowFault checkTable rulesFrom ruleByRule checkSet joinTables joinAnswer joinPool digitOf byteAfter digitsUpTo wordText textFrom writeText digitStep otherStep stepOf scanAll wordsFrom startsWith readWords checkFile readAnswer readOut writeAnswer writeOut formulas formulaAt named holds verdict verdictAnswer setVerdictsAnswer setVerdictsOut reason marked marksAnswer marksOut reading reachedIn reached spareIn spare reachedByAny spareForEach lineage ancestors partBy branchPart fullPart partOf sendAnswer sendOut stepsFrom stepPlace tableAfter stepAnswer trySteps beginAnswer pairs v _⊨_ stated treeOf tree published right cases
 worked = refl
 
 pub as-printed : AsPrinted
 unfolding formulas formulaAt stated constraint1 addresses
 as-printed = record { first = refl; second = refl }
+
+pub with-any-name : WithAnyName
+unfolding formulas formulaAt stated noneIsZero eachHasOne
+with-any-name = record { first = refl; second = refl }

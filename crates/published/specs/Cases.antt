@@ -1,6 +1,6 @@
 -- 01's worked pools (a) to (l), numbers of every width, values below zero, the reductions that lose a verdict, readings over roots,
--- sets of rules, plans, and a table on which the published meaning is not that of rows: the rows of one table, with one test over all
--- of them, proved in proofs/Cases. Assumes nothing.
+-- quantifiers over any name, sets of rules, plans, and a table on which the published meaning is not that of rows: the rows of one
+-- table, with one test over all of them, proved in proofs/Cases. Assumes nothing.
 use Prim.Native.Nat.{ℕ, zero, suc, _+_, _-_, _*_}
 use mathlib.Core.Path.{_≡_}
 use mathlib.Core.Bool.{Bool, true, false, not, cond, _&&_}
@@ -26,7 +26,7 @@ use Rattle.logic.specs.Verdict.{verdict, verdictAnswer, setVerdictsAnswer, setV
 use Rattle.logic.specs.Marks.{marksAnswer, marksOut}
 use Rattle.logic.specs.Parts.{spare, partAnswer, partOut, setPartAnswer, setPartOut}
 use Rattle.logic.specs.Trial.{trialOutcome, returnedBy, appendedBy}
-use Rattle.published.specs.Published.{CL, NOT, OR, IMPLIES, SOME, EACH, EQUAL, _is_}
+use Rattle.published.specs.Published.{CL, NOT, OR, IMPLIES, SOME, EACH, EQUAL, SOMEPAIR, EACHPAIR, _is_}
 use Rattle.published.specs.Stated.{noStanding, stated, published}
 
 -- ---- rules and tables
@@ -105,6 +105,30 @@ abbrev pub ruleAddresses : List ℕ
 ruleAddresses =
     entry 5 1 0 1 ++ entry 5 2 1 2 ++ entry 5 3 1 2 ++ entry 5 4 2 3 ++ entry 5 5 3 3 ++ entry 4 6 8 0 ++ entry 1 7 0 0
     ++ entry 7 1 0 2 ++ entry 1 9 0 0 ++ entry 7 3 0 4
+
+-- nothing under an interface (name 3) of a device equals 0: rows of any name
+abbrev pub nothingZero : List ℕ
+nothingZero = entry 5 1 0 1 ++ entry 5 2 1 3 ++ entry 5 3 2 0 ++ entry 1 4 0 0 ++ entry 7 2 1 0
+
+-- a device with an interface that has two rows under it, of two names, the second with that value
+abbrev pub interfaceWith : ℕ → List ℕ
+interfaceWith k = row 1 1 0 0 1 11 ++ row 1 2 1 1 3 101 ++ row 1 3 2 2 4 7 ++ row 1 4 2 2 5 k
+
+-- some root, of any name, is k
+abbrev pub someRootIs : ℕ → List ℕ
+someRootIs k = entry 6 1 0 0 ++ entry 7 0 1 k
+
+-- every row under a root has some row under it that is 1, all three of any name
+abbrev pub everyChildHasOne : List ℕ
+everyChildHasOne = entry 5 1 0 0 ++ entry 5 2 1 0 ++ entry 6 3 2 0 ++ entry 7 2 1 1
+
+-- a root with two children of one value, of which the first has a row 1 under it: with these names
+abbrev pub twoChildren : ℕ → ℕ → ℕ → List ℕ
+twoChildren first below second = row 1 1 0 0 1 11 ++ row 1 2 1 1 first 5 ++ row 1 3 2 2 below 1 ++ row 1 4 1 1 second 5
+
+-- some root, of any name, equals each b under it
+abbrev pub someEqualsBelow : List ℕ
+someEqualsBelow = entry 6 1 0 0 ++ entry 5 2 1 2 ++ entry 7 0 0 1
 
 -- a router with two interfaces, the second with that address
 abbrev pub router : ℕ → List ℕ
@@ -420,6 +444,35 @@ cases =
     -- paths of two pairs
     ∷ judged ruleAddresses (router 77) false (key 1 1 ++ key 1 2 ++ key 1 3 ++ key 1 4 ++ key 1 5)
     ∷ judged ruleAddresses (router 78) true (key 1 1 ++ key 1 2 ++ key 1 3 ++ key 1 4 ++ key 1 5)
+    -- any name: 3 lets 0 pass in a quantifier and nothing above 65,535, and 9 refuses it in rows
+    ∷ ruleChecked (someRootIs 5) (Done 2)
+    ∷ ruleChecked (entry 6 1 0 65535 ++ entry 7 0 1 5) (Done 2)
+    ∷ ruleChecked (entry 6 1 0 65536 ++ entry 7 0 1 5) (Refused 3 0)
+    ∷ tableChecked (row 1 1 0 0 0 5) (Refused 9 0)
+    ∷ tableChecked (row 1 1 0 0 1 5 ++ row 1 2 1 1 0 5) (Refused 9 1)
+    ∷ ruleFiled (someRootIs 5) (line (entryTo 6 1 0 (digit 0)) ++ line (entryTo 7 0 1 (digit 5)))
+    -- nothing under the interface equals 0: true; and false by one of two rows that have different names
+    ∷ judged nothingZero (interfaceWith 1500) true (key 1 1 ++ key 1 2 ++ key 1 3 ++ key 1 4)
+    ∷ judged nothingZero (interfaceWith 0) false (key 1 1 ++ key 1 2 ++ key 1 4)
+    -- rows of any name are reached: without them the verdict would be another
+    ∷ sends nothingZero 2 (interfaceWith 0) (interfaceWith 0)
+    ∷ sends nothingZero 3 (interfaceWith 0) (row 1 1 0 0 1 11 ++ row 1 2 1 1 3 101 ++ row 1 4 2 2 5 0)
+    ∷ sends nothingZero 3 (interfaceWith 1500) []
+    ∷ judged nothingZero (row 1 1 0 0 1 11 ++ row 1 2 1 1 3 101) true (key 1 1 ++ key 1 2)
+    ∷ setSends (nothingZero ++ ruleA) (5 ∷ 6 ∷ []) 2 (interfaceWith 0) (interfaceWith 0)
+    -- and the bytes of a plan are of such rows
+    ∷ tries nothingZero (5 ∷ []) (interfaceWith 1500) (setStep 1 3 8 ++ setStep 1 4 0) 24 2 0 0 2
+    (row 1 1 0 0 1 11 ++ row 1 2 1 1 3 101 ++ row 1 3 2 2 4 8 ++ row 1 4 2 2 5 0) (1 ∷ 0 ∷ [])
+    -- over roots: of any name, and no row that is no root
+    ∷ judged (someRootIs 5) (row 1 1 0 0 8 5) true (key 1 1)
+    ∷ judged (someRootIs 2) D1 false (key 1 1)
+    -- two children 2 = 5 and 3 = 5 are two rows, and one of them has no row under it. A reading by values alone can't see names: where
+    -- all quantifiers take any name, it gives a table the published truth of the same table with one name in all its rows. There the
+    -- two are one value 5, a path through it leads below both, and the rule is true
+    ∷ judged everyChildHasOne (twoChildren 2 4 3) false (key 1 1 ++ key 1 4)
+    ∷ differs everyChildHasOne (twoChildren 1 1 1) (Refused 12 3) true false
+    -- two roots are 2, and a b that is 1 hangs under the first: the second makes the rule true; by values it would be one root, with that b
+    ∷ judged someEqualsBelow (row 2 2 0 0 2 2 ++ row 2 5 0 0 1 2 ++ row 2 8 2 1 2 1) true (key 2 5)
     -- a set of rules: the number of rules
     ∷ setChecked (ruleA ++ ruleB) (6 ∷ 9 ∷ []) (Done 2)
     -- 20: no counts, more than 32, counts that don't add up, a leftover word, counts that add up modulo 2^32 alone
@@ -520,3 +573,17 @@ addresses =
 pub record AsPrinted : Type 0 where
   pub first : stated (formula ruleA) 0 noStanding ≡ constraint1
   pub second : stated (formula ruleAddresses) 0 noStanding ≡ addresses
+
+-- ---- rules over any name in that form: [device = s] [device = s; interface = i] [device = s, interface = i; any x] ¬ x = 0
+unfoldable pub noneIsZero : CL
+noneIsZero =
+    EACH [] 1 (λ s. EACH ((1 is s) ∷ []) 3 (λ i. EACHPAIR ((1 is s) ∷ (3 is i) ∷ []) (λ x. NOT (EQUAL (x .value) 0))))
+
+-- [any x] [x; any y] ⟨x, y; any z⟩ z = 1: the path goes on with the name and the value
+unfoldable pub eachHasOne : CL
+eachHasOne = EACHPAIR [] (λ x. EACHPAIR (x ∷ []) (λ y. SOMEPAIR (x ∷ y ∷ []) (λ z. EQUAL (z .value) 1)))
+
+-- the claim
+pub record WithAnyName : Type 0 where
+  pub first : stated (formula nothingZero) 0 noStanding ≡ noneIsZero
+  pub second : stated (formula everyChildHasOne) 0 noStanding ≡ eachHasOne

@@ -8,7 +8,7 @@ use lib.ListN.{length, drop}
 use lib.Dec.{eqb}
 use Rattle.tables.specs.Answers.{isDone}
 use Rattle.tables.specs.Words.{rows}
-use Rattle.tables.specs.Rules.{one, acceptedRule}
+use Rattle.tables.specs.Rules.{one, anyName, acceptedRule}
 use Rattle.tables.specs.Tables.{root, isParent, acceptedTable}
 use Rattle.tables.specs.declared.Row.{Row}
 use Rattle.tables.specs.declared.Answer.the-variants.{Done}
@@ -16,7 +16,8 @@ use Rattle.sets.specs.Sets.{rulesOf, acceptedSet}
 use Rattle.logic.specs.Formulas.{Formula, negation, joined, quantified, compared, Connective, and, or, implies, Quantifier, every, some, Comparison, equal, less, atMost, Over, roots, under, Operand, variable, constant, formula, formulasOf}
 use Rattle.logic.specs.Verdict.{verdict, verdictAnswer, setVerdictsAnswer, setVerdictsOut}
 use Rattle.logic.specs.Trial.{beginAnswer, trialOutcome, stateAt, bytesOf}
-use Rattle.published.specs.Published.{Tree, noNode, node, Path, _is_, CL, NOT, OR, AND, IMPLIES, SOME, EACH, EQUAL, LESS, ATMOST, _⊨_}
+use Rattle.published.specs.Published.{Tree, noNode, node, Pair, Path, _is_, _⊨_}
+use Rattle.published.specs.Published.{CL, NOT, OR, AND, IMPLIES, SOME, EACH, EQUAL, LESS, ATMOST, SOMEPAIR, EACHPAIR}
 
 -- ---- a rule's formula in the document's form
 -- a variable stands for a value; its path leads to that value and ends in it
@@ -31,9 +32,9 @@ Standings = ℕ → Standing
 abbrev pub noStanding : Standings
 noStanding x = record { path = []; value = 0 }
 
--- variable x stands for the value k of p at the end of the path
-abbrev pub stand : ℕ → Path → ℕ → ℕ → Standings → Standings
-stand x path p k e y = cond (eqb y x) (record { path = path ++ (p is k) ∷ []; value = k }) (e y)
+-- variable x stands for the pair's value at the end of the path; its own path goes on with the pair
+abbrev pub stand : ℕ → Path → Pair → Standings → Standings
+stand x path pair e y = cond (eqb y x) (record { path = path ++ pair ∷ []; value = pair .value }) (e y)
 
 -- "a quantifier in CL always carries the path leading to a subtree (if any) that may refer to previously quantified variables":
 -- none over roots, else the path of the variable of the parent
@@ -50,9 +51,17 @@ connective and = AND
 connective or = OR
 connective implies = IMPLIES
 
-abbrev pub quantifier : Quantifier → Path → ℕ → (ℕ → CL) → CL
-quantifier every = EACH
-quantifier some = SOME
+abbrev pub overNamed : Quantifier → Path → ℕ → (ℕ → CL) → CL
+overNamed every = EACH
+overNamed some = SOME
+
+abbrev pub overAny : Quantifier → Path → (Pair → CL) → CL
+overAny every = EACHPAIR
+overAny some = SOMEPAIR
+
+-- over any name where the name word says so, else Table 1's with that name; the body is given the pair
+abbrev pub quantifier : Quantifier → Path → ℕ → (Pair → CL) → CL
+quantifier q path p φ = cond (eqb p anyName) (overAny q path φ) (overNamed q path p (λ k. φ (p is k)))
 
 abbrev pub comparison : Comparison → ℕ → ℕ → CL
 comparison equal = EQUAL
@@ -63,7 +72,7 @@ comparison atMost = ATMOST
 unfoldable pub stated : Formula → ℕ → Standings → CL
 stated (negation φ) d e = NOT (stated φ d e)
 stated (joined c φ ψ) d e = connective c (stated φ d e) (stated ψ d e)
-stated (quantified q o p φ) d e = quantifier q (pathTo o e) p (λ k. stated φ (suc d) (stand d (pathTo o e) p k e))
+stated (quantified q o p φ) d e = quantifier q (pathTo o e) p (λ pair. stated φ (suc d) (stand d (pathTo o e) pair e))
 stated (compared c x y) d e = comparison c (e x .value) (term e y)
 
 -- ---- a table's tree

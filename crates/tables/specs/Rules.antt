@@ -64,13 +64,17 @@ around r j = aroundFrom r j j
 abbrev pub unknownKind : Entry → Bool
 unknownKind e = ltb (e .kind) 1 || ltb 9 (e .kind)
 
--- 3: a word due 0 isn't; b of a comparison above 1; name out of range
+-- the name word of a quantifier that takes rows of any name (02, wish 2)
+abbrev pub anyName : ℕ
+anyName = 0
+
+-- 3: a word due 0 isn't; b of a comparison above 1; a quantifier's name neither that of any name nor in range
 abbrev pub badWord : Entry → Bool
 badWord e =
     (isNot e && not (eqb (e .b) 0))
     || ((isNot e || isConnective e) && not (eqb (e .c) 0))
     || (isComparison e && ltb 1 (e .b))
-    || (isQuantifier e && notIdentifier (e .c))
+    || (isQuantifier e && not (eqb (e .c) anyName) && notIdentifier (e .c))
 
 -- 4: child not later, or beyond the end
 abbrev pub badPlace : ℕ → ℕ → ℕ → Bool

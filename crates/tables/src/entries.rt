@@ -18,6 +18,9 @@ pub const B: usize = 2;
 
 pub const C: usize = 3;
 
+// The name word of a quantifier that takes rows of any name.
+pub const ANY_NAME: u32 = 0;
+
 pub(crate) fn entry_at(rule: &[u32], i: usize) -> Entry
     requires { ⌜ entryWords * i + entryWords ≤ length (now rule) ⌝ }
     ensures { λ r. ⌜ r ≡ entryAt (now (rule .entry)) i ⌝ }
@@ -42,7 +45,7 @@ pub(crate) fn bad_word(e: Entry) -> bool
     ((e.kind == 1) & !(e.b == 0))
         | (((e.kind == 1) | ((2 <= e.kind) & (e.kind <= 4))) & !(e.c == 0))
         | (((7 <= e.kind) & (e.kind <= 9)) & (1 < e.b))
-        | (((5 <= e.kind) & (e.kind <= 6)) & ((e.c < 1) | (65535 < e.c)))
+        | (((5 <= e.kind) & (e.kind <= 6)) & !(e.c == ANY_NAME) & ((e.c < 1) | (65535 < e.c)))
 }
 
 pub(crate) fn bad_child(n: usize, i: usize, e: Entry) -> bool

@@ -17,6 +17,7 @@ pub use devices::Span;
 pub use devices::device_rows;
 pub use devices::device_span;
 pub use entries::A;
+pub use entries::ANY_NAME;
 pub use entries::B;
 pub use entries::C;
 pub use entries::ENTRY_WORDS;

@@ -40,7 +40,7 @@ impl Switch<'_> {
     }
 
     fn elsewhere_and_range(&self, quantifier: Quantifier, bound: &Bindings) -> Vec<Option<usize>> {
-        let rows = |parent| range(self.rows, quantifier.name, parent).map(Some);
+        let rows = |parent| range(self.rows, quantifier, parent).map(Some);
         match quantifier.under.map(|variable| bound[variable]) {
             Some(None) => vec![None],
             Some(parent) => rows(parent).chain([None]).collect(),
@@ -63,7 +63,7 @@ impl Switch<'_> {
         let differs = (0..self.rows.len()).find(|&row| read(Some(row)) != elsewhere);
         let describe =
             || format!("{quantifier:?} {bound:?}: {elsewhere:?}, not so for {differs:?} of {self:?}");
-        let own_root = quantifier.under.is_none() && range(self.rows, quantifier.name, None).next().is_some();
+        let own_root = quantifier.under.is_none() && range(self.rows, quantifier, None).next().is_some();
         if own_root && self.uses(quantifier.body, bound.len()) {
             let value = (elsewhere == Reading::True) as usize;
             case.compared(differs.is_none(), Answer::Done(value), describe);

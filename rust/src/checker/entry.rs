@@ -1,6 +1,8 @@
 //! The entries of an accepted rule, by meaning.
 
+use super::table::Row;
 use super::values::value_of;
+use super::ANY_NAME;
 
 #[derive(Clone, Copy, Debug)]
 pub enum Entry {
@@ -19,6 +21,7 @@ pub struct Quantifier {
     pub body: usize,
     /// The variable of the parent; none for roots.
     pub under: Option<usize>,
+    /// That of the rows it takes, or any.
     pub name: u32,
 }
 
@@ -92,6 +95,14 @@ impl Entry {
             Entry::Comparison(comparison) => comparison.variables(),
             _ => vec![],
         }
+    }
+}
+
+impl Quantifier {
+    /// Whether it takes rows of this row's name. Nothing else compares names with those of rules: ranging,
+    /// reaching and readings all ask here.
+    pub fn takes(&self, row: &Row) -> bool {
+        self.name == ANY_NAME || self.name == row.name
     }
 }
 

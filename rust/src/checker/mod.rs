@@ -25,6 +25,8 @@ mod verdict;
 #[cfg(test)]
 mod worked;
 #[cfg(test)]
+mod worked_any_name;
+#[cfg(test)]
 mod worked_signs;
 #[cfg(test)]
 mod worked_trials;
@@ -40,7 +42,7 @@ pub use reach::{fewest_around, is_reached};
 pub use report::{report, report_text, MOST_FILE_BYTES};
 pub use rule::{accepted_rule, check_rule, ENTRY_WORDS, MOST_ENTRIES, MOST_NESTED};
 pub use set::{accepted_set, check_set, rules_of, set_part, set_verdicts, verdicts_on, MOST_RULES};
-pub use spare::spare_rows;
+pub use spare::{spare_rows, spare_rows_reached_by};
 pub use table::{accepted_table, check_table, rows_of, words_of, Row, MOST_ROWS, ROW_WORDS};
 pub use trial::{rows_after, tried, try_plan, Room, Tried, ADD, REMOVE, SET, STEP_WORDS};
 pub use values::{value_of, word_of, LEAST_VALUE, MOST_VALUE};
@@ -48,3 +50,5 @@ pub use verdict::verdict;
 
 /// The largest device, at or name.
 pub const MOST_NAME: u32 = 65_535;
+/// The name of a quantifier that takes rows of any name. No row has it.
+pub const ANY_NAME: u32 = 0;

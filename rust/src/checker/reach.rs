@@ -52,7 +52,7 @@ impl<'a> Reach<'a> {
     /// and its ancestors, all others elsewhere.
     fn bindings(&self, place: usize, row: usize) -> Option<Bindings> {
         let quantifier = self.entries[place].quantifier()?;
-        if self.rows[row].name != quantifier.name {
+        if !quantifier.takes(&self.rows[row]) {
             return None;
         }
         let around = &self.around[place];

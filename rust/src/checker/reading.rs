@@ -89,7 +89,7 @@ impl Switch<'_> {
     fn read_under(&self, quantifier: Quantifier, parent: usize, bound: &mut Bindings) -> Reading {
         let (decided, settled) = (Reading::of(!quantifier.every), Reading::of(quantifier.every));
         let mut all_settled = true;
-        for row in range(self.rows, quantifier.name, Some(parent)) {
+        for row in range(self.rows, quantifier, Some(parent)) {
             let body = self.read_body(quantifier, Some(row), bound);
             if body == decided {
                 return decided;
@@ -106,8 +106,7 @@ impl Switch<'_> {
     /// Whether the body of some own root decides.
     fn own_root_decides(&self, quantifier: Quantifier, bound: &mut Bindings) -> bool {
         let decided = Reading::of(!quantifier.every);
-        range(self.rows, quantifier.name, None)
-            .any(|row| self.read_body(quantifier, Some(row), bound) == decided)
+        range(self.rows, quantifier, None).any(|row| self.read_body(quantifier, Some(row), bound) == decided)
     }
 
     /// Whether the body with the variable elsewhere settles it.

@@ -2,7 +2,7 @@
 
 use super::entry::Entry;
 use super::tests_of_line::{test, test_each};
-use super::MOST_NAME;
+use super::{ANY_NAME, MOST_NAME};
 use crate::answer::{Answer, Refusal};
 
 pub const ENTRY_WORDS: usize = 4;
@@ -40,7 +40,7 @@ fn word_at_fault([kind, _, b, c]: [u32; 4]) -> bool {
     match kind {
         1 => b != 0 || c != 0,
         2..=4 => c != 0,
-        5 | 6 => !(1..=MOST_NAME).contains(&c),
+        5 | 6 => c != ANY_NAME && !(1..=MOST_NAME).contains(&c),
         _ => b > 1,
     }
 }

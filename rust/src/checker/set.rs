@@ -127,7 +127,7 @@ mod tests {
     #[test]
     fn places_count_from_the_first_entry_of_the_set() {
         assert_eq!(check_set(&changed(8, 0), &[2, 3]), Answer::refused(2, 2));
-        assert_eq!(check_set(&changed(15, 0), &[2, 3]), Answer::refused(3, 3));
+        assert_eq!(check_set(&changed(15, 65_536), &[2, 3]), Answer::refused(3, 3));
         // 7 of the first rule comes before 2 of the second.
         let mut rules = changed(5, 1);
         rules[8] = 0;

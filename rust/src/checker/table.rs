@@ -1,5 +1,6 @@
 //! Checks 8 to 12 and 26, and the rows that a quantifier ranges over.
 
+use super::entry::Quantifier;
 use super::tests_of_line::{test, test_each};
 use super::MOST_NAME;
 use crate::answer::{Answer, Refusal};
@@ -103,11 +104,16 @@ pub fn words_of(rows: &[Row]) -> Vec<u32> {
     rows.iter().flat_map(Row::words).collect()
 }
 
-/// In table order, the rows with this name that are roots, or whose parent is the row given.
-pub fn range(rows: &[Row], name: u32, parent: Option<usize>) -> impl Iterator<Item = usize> + '_ {
+/// In table order, the rows that the quantifier takes by name and that are roots, or whose parent is the row
+/// given.
+pub fn range(
+    rows: &[Row],
+    quantifier: Quantifier,
+    parent: Option<usize>,
+) -> impl Iterator<Item = usize> + '_ {
     (0..rows.len()).filter(move |&place| {
         let row = &rows[place];
-        row.name == name && parent.map_or(row.is_root(), |parent| rows[parent].is_parent_of(row))
+        quantifier.takes(row) && parent.map_or(row.is_root(), |parent| rows[parent].is_parent_of(row))
     })
 }
 

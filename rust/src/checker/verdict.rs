@@ -45,7 +45,7 @@ impl Evaluation<'_> {
     }
 
     pub fn range(&self, quantifier: Quantifier, bound: &[usize]) -> impl Iterator<Item = usize> + '_ {
-        range(self.rows, quantifier.name, quantifier.under.map(|variable| bound[variable]))
+        range(self.rows, quantifier, quantifier.under.map(|variable| bound[variable]))
     }
 
     fn body_verdict(&self, quantifier: Quantifier, row: usize, bound: &mut Vec<usize>) -> bool {

@@ -1,6 +1,7 @@
 //! Running seeded cases and counting the comparisons.
 
 pub mod calls;
+pub mod each_call;
 mod lent;
 pub mod refused_step;
 pub mod steps;

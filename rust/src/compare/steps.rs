@@ -20,9 +20,9 @@ pub const EMPTIED: &str = "the last row removed";
 pub const ANOTHER_THERE: &str = "a row added with another name or parent where one was removed";
 pub const FREED: &str = "a row removed that had rows under it";
 pub const DEEP: &str = "a row that hangs under six others or more";
-pub const OTHER_NAME: &str = "a row with a name of no rule";
-pub const OTHER_PARENT: &str = "a row with a rule's name that no rule reaches";
-pub const UNDER_UNREACHED: &str = "a row with a rule's name under one that no rule reaches";
+pub const OTHER_NAME: &str = "a row with a name that no rule takes";
+pub const OTHER_PARENT: &str = "a row with a name that a rule takes and that no rule reaches";
+pub const UNDER_UNREACHED: &str = "a row with a name that a rule takes under one that no rule reaches";
 pub const SOME_REACH: &str = "a row that some rules reach and others do not";
 pub const DEEPEST: &str = "a row that hangs under five others and that a rule reaches";
 pub const SOME_TURN: &str = "a step that turns some verdicts and leaves others";
@@ -119,8 +119,8 @@ impl Walk<'_> {
 
     /// Which rules reach the row, and which verdicts turn: none of a rule that does not reach it.
     fn note_rules(&self, case: &mut Case, step: &Step, done: usize) {
-        let has_name = |entry: &Entry| entry.quantifier().is_some_and(|with| with.name == step.row.name);
-        let of_a_rule = self.set.iter().flatten().any(has_name);
+        let takes = |entry: &Entry| entry.quantifier().is_some_and(|quantifier| quantifier.takes(&step.row));
+        let of_a_rule = self.set.iter().flatten().any(takes);
         let reached = |rule: usize, place: usize| is_reached(&self.set[rule], step.table, place);
         let all = 0..self.set.len();
         let reach = all.clone().filter(|&rule| of_a_rule && reached(rule, step.place)).count();

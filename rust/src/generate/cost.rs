@@ -58,8 +58,8 @@ impl Cost {
 
     fn of_bodies(&self) -> u64 {
         let of_body = |quantifier: Quantifier| {
-            let named = self.rows.iter().filter(|row| row.name == quantifier.name).count() as u64;
-            named.saturating_mul(self.of_entry(quantifier.body))
+            let taken = self.rows.iter().filter(|row| quantifier.takes(row)).count() as u64;
+            taken.saturating_mul(self.of_entry(quantifier.body))
         };
         let bodies = self.entries.iter().filter_map(|entry| entry.quantifier()).map(of_body);
         bodies.fold(0, u64::saturating_add)
@@ -79,8 +79,8 @@ impl Cost {
     }
 
     fn most_in_range(&self, quantifier: Quantifier) -> u64 {
-        let named = self.rows.iter().filter(|row| row.name == quantifier.name);
-        let in_range: Vec<&Row> = named.filter(|row| row.is_root() == quantifier.under.is_none()).collect();
+        let taken = self.rows.iter().filter(|row| quantifier.takes(row));
+        let in_range: Vec<&Row> = taken.filter(|row| row.is_root() == quantifier.under.is_none()).collect();
         if quantifier.under.is_none() {
             return in_range.len() as u64;
         }

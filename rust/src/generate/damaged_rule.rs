@@ -1,7 +1,7 @@
 //! Rules with faults under 1 to 7.
 
 use super::faults::{change_a_word, with_faults};
-use super::rules::{rule_of, RuleShape, Sides};
+use super::rules::{rule_of, some_any, RuleShape, Sides};
 use super::vocabulary::Vocabulary;
 use crate::checker::{ENTRY_WORDS, MOST_ENTRIES, MOST_NESTED};
 use crate::random::Random;
@@ -95,7 +95,7 @@ fn wrong_word(random: &mut Random, words: &mut [u32]) {
     match words[0] {
         1 => words[random.between(2, 3)] = above_0,
         2..=4 => words[3] = above_0,
-        5 | 6 => words[3] = random.pick(&[0, 65_536, 65_537, 2_147_483_648, u32::MAX]),
+        5 | 6 => words[3] = random.pick(&[65_536, 65_537, 2_147_483_648, u32::MAX]),
         _ => words[2] = random.pick(&[2, 3, 65_536, u32::MAX]),
     }
 }
@@ -126,7 +126,8 @@ fn too_nested(random: &mut Random) -> Vec<u32> {
     let vocabulary = Vocabulary::new(random);
     let nested = random.between(MOST_NESTED + 1, MOST_NESTED + 5);
     let entries = random.between(nested + 1, 60);
-    let shape = RuleShape { entries, nested, weights: [1, 1, 12], sides: Sides::Any, roots: 40 };
+    let any = some_any(random);
+    let shape = RuleShape { entries, nested, weights: [1, 1, 12], sides: Sides::Any, roots: 40, any };
     rule_of(random, &vocabulary, shape)
 }
 

@@ -2,7 +2,9 @@
 
 use std::collections::{BTreeSet, HashMap, HashSet};
 
-use crate::checker::{devices_of, rows_of, words_of, Row, ENTRY_WORDS, LEAST_VALUE, MOST_NAME, MOST_VALUE};
+use crate::checker::{
+    devices_of, rows_of, words_of, Row, ANY_NAME, ENTRY_WORDS, LEAST_VALUE, MOST_NAME, MOST_VALUE,
+};
 use crate::random::Random;
 
 /// How many digits the number has.
@@ -85,12 +87,13 @@ fn value(random: &mut Random) -> u32 {
     }
 }
 
-/// An accepted rule with other names and constants; most comparisons then have a constant.
+/// An accepted rule with other names and constants; most comparisons then have a constant. Quantifiers over any
+/// name stay so.
 pub fn renumbered_rule(random: &mut Random, rule: &[u32]) -> Vec<u32> {
     let mut rule = rule.to_vec();
     for words in rule.chunks_exact_mut(ENTRY_WORDS) {
         match words[0] {
-            5 | 6 => words[3] = name(random),
+            5 | 6 if words[3] != ANY_NAME => words[3] = name(random),
             7..=9 if words[2] == 1 || random.chance(60) => {
                 (words[2], words[3]) = (1, value(random));
             }

@@ -1,5 +1,7 @@
 //! Random rules, pools and files, accepted and damaged.
 
+mod answers;
+mod any_name;
 mod chains;
 mod collisions;
 mod conjunction;
@@ -29,12 +31,14 @@ mod requests;
 mod rooms;
 mod rules;
 mod sets;
+mod spelled_out;
 mod steps;
 #[cfg(test)]
 mod tests;
 mod together;
 mod vocabulary;
 
+pub use any_name::{has_any_name, widened, Narrow, OneSided};
 pub use collisions::{colliding_rows, two_colliding_tables};
 pub use conjunction::conjunction;
 pub use cost::{files_cost, reading_cost, set_cost, verdict_cost};
@@ -65,8 +69,10 @@ pub use requests::{one_or_several, unknown_mode, with_another_device};
 pub use rooms::{any_room, enough_room, short_room};
 pub use rules::{rule, rule_of, RuleShape};
 pub use sets::{set, set_and_devices, set_and_devices_or_roots, set_and_pool, set_and_roots, Set};
+pub use spelled_out::spelled_out;
 pub use together::{
-    damaged_together, deep_rows, nested_rule_and_table, rule_and_deep_rows, rule_and_devices, rule_and_pool,
-    rule_and_roots, rule_and_siblings, rule_and_signs, Together,
+    any_names_and_devices, damaged_together, deep_rows, nested_rule_and_table, rule_and_any_names,
+    rule_and_deep_rows, rule_and_devices, rule_and_pool, rule_and_roots, rule_and_siblings, rule_and_signs,
+    Together,
 };
 pub use vocabulary::{word_of_any_class, Vocabulary, NOT_IN_POOL, NO_RULE};

@@ -2,10 +2,10 @@
 //! limit permits, one less, one more or a few more.
 
 use super::damaged_rule::use_variable;
-use super::rules::{least_entries, Node, RuleShape, Sides, Tree};
+use super::rules::{least_entries, some_any, Node, RuleShape, Sides, Tree};
 use super::vocabulary::Vocabulary;
 use crate::answer::Answer;
-use crate::checker::{ENTRY_WORDS, MOST_NESTED};
+use crate::checker::{ANY_NAME, ENTRY_WORDS, MOST_NESTED};
 use crate::random::Random;
 
 /// A rule without other faults than 6 and 7.
@@ -36,7 +36,7 @@ pub fn nested_rule(random: &mut Random, vocabulary: &Vocabulary) -> NestedRule {
 }
 
 /// So many percent of the quantifiers follow a chain of rows: each ranges under the one around it, over the
-/// name of its depth.
+/// name of its depth or over any.
 pub fn nested_rule_along(random: &mut Random, vocabulary: &Vocabulary, chained: usize) -> NestedRule {
     let depths = depths(random);
     let deepest = depths.iter().copied().max().expect("a branch");
@@ -47,6 +47,7 @@ pub fn nested_rule_along(random: &mut Random, vocabulary: &Vocabulary, chained: 
         weights: [1, 1, 3],
         sides: Sides::Any,
         roots: random.pick(&[0, 30, 60, 100]),
+        any: some_any(random),
     };
     let mut tree = Tree::new(random, vocabulary, shape);
     tree.branches(&depths, 0);
@@ -123,7 +124,10 @@ impl Tree<'_> {
         for node in quantifiers {
             if let Some(&name) = self.vocabulary.names.get(node.around) {
                 if self.random.chance(percent) {
-                    (node.words[2], node.words[3]) = (node.around as u32, name);
+                    node.words[2] = node.around as u32;
+                    if node.words[3] != ANY_NAME {
+                        node.words[3] = name;
+                    }
                 }
             }
         }

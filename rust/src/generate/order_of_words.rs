@@ -1,14 +1,10 @@
 //! Requests that the order of the words would answer otherwise than that of the values. With the highest bit of
 //! every value and constant turned, values are in the order that the words had.
 
+use super::answers::{marked, rows_sent, trial_verdicts, verdicts};
 use super::plans::Plan;
-use super::rooms::enough_room;
 use super::sets::Set;
-use crate::answer::Answer;
-use crate::checker::{
-    marks, part, rows_of, set_verdicts, tried, verdict, words_of, ENTRY_WORDS, LEAST_VALUE, ROW_WORDS,
-    STEP_WORDS,
-};
+use crate::checker::{rows_of, verdict, words_of, ENTRY_WORDS, LEAST_VALUE, STEP_WORDS};
 
 /// What the tests note of such a request.
 pub const OTHER_VERDICT: &str = "another verdict by the order of the words";
@@ -21,43 +17,25 @@ pub fn other_verdict(rule: &[u32], pool: &[u32]) -> bool {
 
 /// Whether other rows would be marked.
 pub fn other_marks(rule: &[u32], pool: &[u32]) -> bool {
-    let marked = |rule: &[u32], pool: &[u32]| {
-        let mut bytes = vec![0; pool.len() / ROW_WORDS];
-        marks(rule, pool, &mut bytes);
-        bytes
-    };
     marked(rule, pool) != marked(&turned_rule(rule), &turned_table(pool))
 }
 
 /// Whether the full part would have other rows.
 pub fn other_part(rule: &[u32], device: &[u32]) -> bool {
     let ats = |rule: &[u32], device: &[u32]| {
-        let mut words = vec![0; device.len()];
-        let Answer::Done(rows) = part(rule, device, 3, &mut words) else {
-            panic!("a refused part of {device:?} for {rule:?}");
-        };
-        rows_of(&words[..rows * ROW_WORDS]).iter().map(|row| row.at).collect::<Vec<_>>()
+        rows_sent(&Set::of(&[rule]), device, 3).iter().map(|row| row.at).collect::<Vec<_>>()
     };
     ats(rule, device) != ats(&turned_rule(rule), &turned_table(device))
 }
 
 /// Whether the verdict of some rule would be another.
 pub fn other_verdicts(set: &Set, pool: &[u32]) -> bool {
-    let verdicts = |set: &Set, pool: &[u32]| {
-        let mut bytes = vec![0; set.counts.len()];
-        set_verdicts(&set.rules, &set.counts, pool, &mut bytes);
-        bytes
-    };
     verdicts(set, pool) != verdicts(&turned_set(set), &turned_table(pool))
 }
 
 /// Whether the verdict of some rule after some step would be another.
 pub fn other_trial(plan: &Plan) -> bool {
-    let verdicts = |plan: &Plan| {
-        let tried = tried(&plan.set.rules, &plan.set.counts, &plan.pool, &plan.steps, enough_room(plan));
-        tried.expect("no refusal before step 0").verdicts
-    };
-    verdicts(plan) != verdicts(&turned_plan(plan))
+    trial_verdicts(plan) != trial_verdicts(&turned_plan(plan))
 }
 
 fn turned_rule(rule: &[u32]) -> Vec<u32> {

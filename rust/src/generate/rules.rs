@@ -2,7 +2,7 @@
 //! contract permits.
 
 use super::vocabulary::{Vocabulary, NOT_IN_POOL};
-use crate::checker::{ENTRY_WORDS, MOST_ENTRIES, MOST_NESTED};
+use crate::checker::{ANY_NAME, ENTRY_WORDS, MOST_ENTRIES, MOST_NESTED};
 use crate::random::Random;
 
 /// How a rule is grown.
@@ -16,6 +16,8 @@ pub struct RuleShape {
     pub sides: Sides,
     /// Percent of quantifiers over roots, where a variable is bound.
     pub roots: usize,
+    /// Percent of quantifiers over any name.
+    pub any: usize,
 }
 
 /// How the entries of a connective are shared between its sides.
@@ -44,8 +46,19 @@ impl RuleShape {
             weights: random.pick(&WEIGHTS),
             sides,
             roots: random.pick(&[20, 40, 80]),
+            any: some_any(random),
         }
     }
+
+    /// The same with many quantifiers over any name.
+    pub fn of_any_names(random: &mut Random) -> RuleShape {
+        RuleShape { any: random.pick(&[30, 60, 100]), ..RuleShape::new(random) }
+    }
+}
+
+/// Percent of quantifiers over any name, in every second rule.
+pub fn some_any(random: &mut Random) -> usize {
+    random.pick(&[0, 0, 15, 25])
 }
 
 /// An accepted rule of any shape.
@@ -174,9 +187,18 @@ impl Tree<'_> {
             false if self.random.chance(50) => around,
             false => self.random.between(1, around),
         };
-        let outside = self.random.chance(4);
-        let name = if outside { NOT_IN_POOL } else { self.vocabulary.name(self.random, over_roots) };
-        [kind, 0, under as u32, name]
+        [kind, 0, under as u32, self.name(over_roots)]
+    }
+
+    /// Of the vocabulary, any, or one that finds no rows.
+    fn name(&mut self, over_roots: bool) -> u32 {
+        if self.random.chance(self.shape.any) {
+            ANY_NAME
+        } else if self.random.chance(4) {
+            NOT_IN_POOL
+        } else {
+            self.vocabulary.name(self.random, over_roots)
+        }
     }
 
     /// Any two variables, also one with itself, or a variable and a constant.

@@ -1,11 +1,13 @@
 //! What the generators promise.
 
+use std::collections::BTreeSet;
+
 use super::*;
 use crate::answer::Answer;
 use crate::checker::{
-    accepted_rule, accepted_table, check_rule, check_set, check_table, marks, part, rows_of, set_part,
-    value_of, verdict, Entry, ENTRY_WORDS, MOST_ENTRIES, MOST_NAME, MOST_NESTED, MOST_RULES, MOST_VALUE,
-    POOL, ROW_WORDS, RULE,
+    accepted_rule, accepted_table, check_rule, check_set, check_table, devices_of, marks, part, rows_of,
+    set_part, value_of, verdict, Entry, ENTRY_WORDS, MOST_ENTRIES, MOST_NAME, MOST_NESTED, MOST_RULES,
+    MOST_VALUE, POOL, ROW_WORDS, RULE,
 };
 use crate::random::Random;
 
@@ -69,6 +71,75 @@ fn signs_decide_verdicts() {
     }
     assert!(of_any >= 100 && of_signs >= 2_000, "{of_any} of any, {of_signs} of signs");
     assert!((1_000..=2_000).contains(&holds), "{holds} are true");
+}
+
+/// Some rules have quantifiers over any name and many have none, whatever makes them.
+#[test]
+fn any_names_come_everywhere() {
+    const LIMIT: Together = Together { rows: 24, cost: 4_000 };
+    const PLAN_LIMIT: PlanLimit = PlanLimit { rows: 24, steps: 4, cost: 4_000 };
+    type Rules = fn(&mut Random) -> Vec<u32>;
+    let sources: [(&str, Rules); 7] = [
+        ("rule_and_pool", |random| rule_and_pool(random, LIMIT).0),
+        ("rule_and_roots", |random| rule_and_roots(random, 20_000).0),
+        ("rule_and_siblings", |random| rule_and_siblings(random, LIMIT).0),
+        ("nested_rule_and_table", |random| nested_rule_and_table(random, 20_000).0.words),
+        ("set_and_devices", |random| set_and_devices(random, LIMIT).0.rules),
+        ("plan", |random| plan(random, PLAN_LIMIT).set.rules),
+        ("too nested", |random| {
+            let mut rule = vec![];
+            damage_rule(random, &mut rule, 6);
+            rule
+        }),
+    ];
+    for (source, rules) in sources {
+        let found = (0..1_000).filter(|&seed| has_any_name(&rules(&mut Random::new(seed)))).count();
+        assert!((150..=850).contains(&found), "{found} of {source}");
+    }
+}
+
+/// Nearly all rules have them, and each other reading would turn some verdicts; about as many rules are true as
+/// false.
+#[test]
+fn any_names_decide_verdicts() {
+    let limit = Together { rows: 40, cost: 10_000 };
+    let (mut has_any, mut holds, mut turned) = (0, 0, [0; 5]);
+    for seed in 0..2_000 {
+        let (rule, pool) = rule_and_any_names(&mut Random::new(seed), limit);
+        has_any += has_any_name(&rule) as u32;
+        holds += (verdict(&rule, &pool) == Answer::Done(1)) as u32;
+        for (times, narrow) in turned.iter_mut().zip(Narrow::OF_RULES) {
+            *times += narrow.other_verdict(&rule, &pool) as u32;
+        }
+    }
+    assert!(has_any >= 1_900 && (600..=1_400).contains(&holds), "{has_any} have any, {holds} are true");
+    assert!(turned.iter().all(|&times| times >= 200) && turned[0] >= 1_000, "{turned:?}");
+}
+
+/// With all names of the table each such rule means the same, if it is not too long; so do parts.
+#[test]
+fn names_can_be_spelled_out() {
+    let (mut several, mut too_long) = (0, 0);
+    for seed in 0..3_000 {
+        let random = &mut Random::new(seed);
+        let (rule, pool) = rule_and_any_names(random, Together { rows: 30, cost: 4_000 });
+        let names: BTreeSet<u32> = rows_of(&pool).iter().map(|row| row.name).chain([NOT_IN_POOL]).collect();
+        let names: Vec<u32> = names.into_iter().collect();
+        let Some(long) = spelled_out(&rule, &names) else {
+            too_long += 1;
+            continue;
+        };
+        assert!(!has_any_name(&long), "seed {seed}: {long:?}");
+        assert_eq!(verdict(&rule, &pool), verdict(&long, &pool), "seed {seed}: {rule:?} {pool:?}");
+        for device in devices_of(&pool) {
+            for mode in [2, 3] {
+                let [short, long] = [&rule, &long].map(|rule| part_of_set(&Set::of(&[rule]), device, mode));
+                assert_eq!(short, long, "seed {seed}: {rule:?} {device:?}");
+            }
+        }
+        several += (long.len() > rule.len()) as u32;
+    }
+    assert!(several >= 1_000 && too_long >= 300, "{several} became longer, {too_long} too long");
 }
 
 /// The checker reads of them what they tell.

@@ -1,5 +1,6 @@
 //! A rule and a pool that use the same names and values, and do not take long.
 
+use super::any_name::{has_any_name, Narrow};
 use super::chains::chains;
 use super::cost::{reading_cost, verdict_cost};
 use super::damaged_rule::damaged_rule;
@@ -7,10 +8,16 @@ use super::damaged_table::damaged_table;
 use super::nested::{nested_rule, nested_rule_along, NestedRule};
 use super::order_of_words::other_verdict;
 use super::pools::{pool_of, PoolShape};
-use super::rules::{rule_of, RuleShape, Sides};
+use super::rules::{rule_of, some_any, RuleShape, Sides};
 use super::vocabulary::Vocabulary;
 use crate::checker::{devices_of, rows_of, MOST_NESTED};
 use crate::random::Random;
+
+/// How often a rule is drawn that another reading may leave as it is.
+const ATTEMPTS: usize = 200;
+
+/// The words of a rule and of a table.
+type RuleAndTable = (Vec<u32>, Vec<u32>);
 
 #[derive(Clone, Copy, Debug)]
 pub struct Together {
@@ -22,7 +29,7 @@ pub struct Together {
 
 /// An accepted rule and an accepted pool.
 pub fn rule_and_pool(random: &mut Random, limit: Together) -> (Vec<u32>, Vec<u32>) {
-    rule_and_pool_of(random, limit, Vocabulary::new)
+    rule_and_pool_of(random, limit, Vocabulary::new, RuleShape::new)
 }
 
 /// The same with values around zero and at both ends. By the order of the words, most of the rules would have
@@ -30,24 +37,44 @@ pub fn rule_and_pool(random: &mut Random, limit: Together) -> (Vec<u32>, Vec<u32
 pub fn rule_and_signs(random: &mut Random, limit: Together) -> (Vec<u32>, Vec<u32>) {
     let any = random.chance(30);
     loop {
-        let (rule, pool) = rule_and_pool_of(random, limit, Vocabulary::of_edges);
+        let (rule, pool) = rule_and_pool_of(random, limit, Vocabulary::of_edges, RuleShape::new);
         if any || other_verdict(&rule, &pool) {
             return (rule, pool);
         }
     }
 }
 
+/// The same with quantifiers over any name, in nearly all rules. If their name took no rows, or only for some of
+/// them, most of the rules would have another verdict.
+pub fn rule_and_any_names(random: &mut Random, limit: Together) -> (Vec<u32>, Vec<u32>) {
+    let (choice, narrow) = (random.below(20), random.pick(&Narrow::OF_RULES));
+    for attempt in 0.. {
+        let (rule, pool) = rule_and_pool_of(random, limit, Vocabulary::of_names, RuleShape::of_any_names);
+        let is_chosen = match choice {
+            0 => true,
+            1..=7 => has_any_name(&rule),
+            _ => narrow.other_verdict(&rule, &pool),
+        };
+        // None differs if the checker itself has that reading: then a comparison has to tell.
+        if is_chosen || attempt == ATTEMPTS {
+            return (rule, pool);
+        }
+    }
+    unreachable!("one of the attempts is the last")
+}
+
 fn rule_and_pool_of(
     random: &mut Random,
     limit: Together,
     vocabulary: fn(&mut Random) -> Vocabulary,
+    rule_shape: fn(&mut Random) -> RuleShape,
 ) -> (Vec<u32>, Vec<u32>) {
     loop {
         let vocabulary = vocabulary(random);
         let mut shape = PoolShape::new(random);
         shape.rows = shape.rows.min(limit.rows);
         shape.devices = shape.devices.min(limit.rows.max(1));
-        let rule_shape = RuleShape::new(random);
+        let rule_shape = rule_shape(random);
         let rule = rule_of(random, &vocabulary, rule_shape);
         // A pool that takes too long is tried again with half its rows, down to a quarter.
         for _ in 0..3 {
@@ -100,6 +127,7 @@ pub fn rule_over_roots(random: &mut Random, vocabulary: &Vocabulary) -> Vec<u32>
         weights: random.pick(&[[1, 6, 4], [1, 8, 2], [2, 4, 4]]),
         sides: Sides::Any,
         roots: random.pick(&[80, 100]),
+        any: some_any(random),
     };
     rule_of(random, vocabulary, shape)
 }
@@ -147,16 +175,16 @@ fn nested_rule_and_chains(random: &mut Random, cost: u64) -> (NestedRule, Vec<u3
     let names = (1..=MOST_NESTED as u32 + 1).collect();
     let vocabulary = Vocabulary { names, ..Vocabulary::new(random) };
     let chained = random.pick(&[90, 100, 100]);
-    let rule = nested_rule_along(random, &vocabulary, chained);
-    let mut beside = random.below(10);
     loop {
-        let length = MOST_NESTED + random.below(2);
-        let table = chains(random, &vocabulary, length, beside);
-        if takes(&rule, &table) <= cost {
-            return (rule, table);
+        let rule = nested_rule_along(random, &vocabulary, chained);
+        // From any number of rows beside the chain down to none. Even so a rule over any name may take long.
+        for beside in [random.below(10), random.below(4), 0] {
+            let length = MOST_NESTED + random.below(2);
+            let table = chains(random, &vocabulary, length, beside);
+            if takes(&rule, &table) <= cost {
+                return (rule, table);
+            }
         }
-        // No rule takes long on the chain of one device alone.
-        beside /= 2;
     }
 }
 
@@ -187,6 +215,19 @@ pub fn deep_rows(random: &mut Random, vocabulary: &Vocabulary, devices: usize, r
 
 /// An accepted rule, and the tables of devices whose rows together are accepted; some have no rows.
 pub fn rule_and_devices(random: &mut Random, limit: Together) -> (Vec<u32>, Vec<Vec<u32>>) {
+    rule_and_devices_of(random, limit, rule_and_pool)
+}
+
+/// The same with quantifiers over any name.
+pub fn any_names_and_devices(random: &mut Random, limit: Together) -> (Vec<u32>, Vec<Vec<u32>>) {
+    rule_and_devices_of(random, limit, rule_and_any_names)
+}
+
+fn rule_and_devices_of(
+    random: &mut Random,
+    limit: Together,
+    rule_and_pool: fn(&mut Random, Together) -> RuleAndTable,
+) -> (Vec<u32>, Vec<Vec<u32>>) {
     loop {
         let (rule, pool) = rule_and_pool(random, limit);
         let devices = devices_of(&pool);

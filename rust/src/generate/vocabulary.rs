@@ -67,6 +67,16 @@ impl Vocabulary {
         Vocabulary { values: edges(random, values), ..Vocabulary::new(random) }
     }
 
+    /// The same with two names or more.
+    pub fn of_names(random: &mut Random) -> Vocabulary {
+        loop {
+            let vocabulary = Vocabulary::new(random);
+            if vocabulary.names.len() > 1 {
+                return vocabulary;
+            }
+        }
+    }
+
     /// Roots and quantifiers over roots mostly use the first name, so that they meet.
     pub fn name(&self, random: &mut Random, over_roots: bool) -> u32 {
         if over_roots && random.chance(70) {

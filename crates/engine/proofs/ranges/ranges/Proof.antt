@@ -1,21 +1,36 @@
 -- `engine::ranges::ranges` meets its contract. Assumes nothing.
 use denote.Ref.{now}
-use Prim.Native.Nat.{_-_}
-use native.Mathlib.Omega.{arith}
-use Rattle.engine.proofs.Leaves.{ranges-other, ranges-root, ranges-nothing, ranges-child}
+use mathlib.Core.Path.{sym, ap, _∙_}
+use Rattle.engine.specs.Ready.{placeUnder}
+use Rattle.engine.proofs.Ranged.{place-named, place-inside, none-ranged, at-place}
 use borrow.Author.Needs.{needs}
 use Rattle.engine.proofs.ranges.ranges.Statement.{statement}
 use Rattle.engine.proofs.ranges.ranges.Tie as tie
 
 pub ranges-spec : {M : Type 1} → statement M
 ranges-spec = tie.close (tie.spec
-    (λ c κs. search needs)
-    (λ c. let s = c .before .before .before .before .before in ranges-other (now (s .args .pool)) (s .args .b .row) (s .args .e .b) (s .args .e .c) _ _ (c .before .before .before .row-at .ensures) (c .if1 .taken))
-    (λ c. search needs)
-    (λ c. let s = c .before .before .before .before .before .before .before .before in ranges-root (now (s .args .pool)) (s .args .b .row) (s .args .e .b) (s .args .e .c) _ _ (c .before .before .before .before .before .before .row-at .ensures) (c .before .before .before .if1 .left) (c .before .if2 .taken))
     (λ c. search needs)
     (λ c κs. search needs)
-    (λ c. let s = c .before .before .before .before .before .before .before .before .before in ranges-nothing (now (s .args .pool)) (s .args .b .row) (s .args .e .b) (s .args .e .c) _ _ (c .before .before .before .before .before .before .before .row-at .ensures) (c .before .before .before .before .if1 .left) _ (c .before .before .if2 .left) (c .before .place-of .ensures) (c .if3 .taken))
+    (λ c. let s = c .before .before .before .before in
+    let if1 = c .before .if1 in
+    c .ranged .ensures
+    ∙ at-place (now (s .args .pool)) (s .args .b) (s .args .e) 0 (sym (ap (placeUnder (s .args .b .row)) (if1 .taken)))
+    (λ l z. l (if1 .taken)) (s .args .row))
     (λ c. search needs)
-    (λ c κs. let s = c .before .before .before .before .before .before .before .before .before in omega (arith, s .pre .0 .kept (s .args .e .b - 1), c .before .place-of .ensures, c .if3 .left))
-    (λ c. let s = c .before .before .before .before .before .before .before .before .before .before .before .before .before .before in ranges-child (now (s .args .pool)) (s .args .b .row) (s .args .e .b) (s .args .e .c) _ _ (c .before .before .before .before .before .before .before .before .before .before .before .before .row-at .ensures) (c .before .before .before .before .before .before .before .before .before .if1 .left) _ _ (c .before .before .before .before .before .before .before .if2 .left) (c .before .before .before .before .before .before .place-of .ensures) (c .before .before .before .before .before .if3 .left) (c .before .before .before .before .row-at2 .ensures)))
+    (λ c κs. search needs)
+    (λ c. let s = c .before .before .before .before .before in
+    let if1 = c .before .before .if1 in
+    let place-of = c .before .place-of in
+    let place-is = place-named (s .args .b .row) (s .args .e .b) _ (if1 .left) (place-of .ensures) in
+    none-ranged (now (s .args .pool)) (s .args .b) (s .args .e) _ place-is (if1 .left) (c .if2 .taken) _)
+    (λ c κs. let s = c .before .before .before .before .before in
+    let if1 = c .before .before .if1 in
+    let place-of = c .before .place-of in
+    let place-is = place-named (s .args .b .row) (s .args .e .b) _ (if1 .left) (place-of .ensures) in
+    (place-inside (now (s .args .pool)) (s .args .b) (s .pre .0) (s .args .e .b) _ place-is, s .pre .1 .1))
+    (λ c. let s = c .before .before .before .before .before .before in
+    let if1 = c .before .before .before .if1 in
+    let place-of = c .before .before .place-of in
+    let if2 = c .before .if2 in
+    let place-is = place-named (s .args .b .row) (s .args .e .b) _ (if1 .left) (place-of .ensures) in
+    c .ranged2 .ensures ∙ at-place (now (s .args .pool)) (s .args .b) (s .args .e) _ place-is (λ l. if2 .left) (s .args .row)))

@@ -1,5 +1,5 @@
 -- `engine::touching::place_on_way` meets its contract. Assumes nothing.
-use mathlib.Core.Path.{refl}
+use mathlib.Core.Path.{refl, sym, _∙_}
 use native.Mathlib.Omega.{arith}
 use denote.Ref.{now}
 use Rattle.engine.proofs.Ways.{lands-past, lands-free, lands-inside, lands-other, lands-there}
@@ -26,12 +26,14 @@ place-on-way-spec = tie.close (tie.spec
     let depth-of = c .before .before .before .depth-of in
     let if2 = c .if2 in
     lands-inside (now (s .args .pool)) _ (s .args .b .row) (s .args .e) (s .pre .1 .1) (depth-of .ensures) refl (if2 .left))
-    (λ c. let s = c .before .before .before .before .before .before .before .before .before in
-    let depth-of = c .before .before .before .before .before .before .before .depth-of in
-    let row-at = c .before .before .before .row-at in
+    (λ c κs. search needs)
+    (λ c. let s = c .before .before .before .before .before .before .before .before in
+    let depth-of = c .before .before .before .before .before .before .depth-of in
+    lands-there (now (s .args .pool)) _ (s .args .b .row) (s .args .e) (s .pre .1 .1) (depth-of .ensures) refl)
+    (λ c. let s = c .before .before .before .before .before .before .before .before in
+    let depth-of = c .before .before .before .before .before .before .depth-of in
+    let row-at = c .before .before .row-at in
+    let is-named = c .before .is-named in
     let if3 = c .if3 in
-    lands-other (now (s .args .pool)) _ (s .args .b .row) (s .args .e) (s .pre .1 .1) (depth-of .ensures) refl
-    (row-at .ensures) (if3 .taken))
-    (λ c. let s = c .before .before .before .before .before .before .before .before .before in
-    let depth-of = c .before .before .before .before .before .before .before .depth-of in
-    lands-there (now (s .args .pool)) _ (s .args .b .row) (s .args .e) (s .pre .1 .1) (depth-of .ensures) refl))
+    lands-other (now (s .args .pool)) _ (s .args .b .row) (s .args .e) (s .pre .1 .1) (depth-of .ensures) refl (row-at .ensures)
+    (sym (is-named .ensures) ∙ if3 .left)))

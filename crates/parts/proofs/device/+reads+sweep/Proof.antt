@@ -3,6 +3,7 @@ use Prim.Native.Nat.{ℕ, _<_, _+_, _-_, _/_}
 use borrow.Author.Needs.{needs}
 use native.Mathlib.Omega.{arith}
 use Rattle.engine.proofs.Falls.{entry-measure, rows-measure}
+use Rattle.engine.proofs.Ranged.{place-inside}
 use Rattle.parts.proofs.Steps as steps
 use Rattle.parts.proofs.Quantifiers as quantifiers
 use mathlib.Core.Path.{refl}
@@ -321,7 +322,7 @@ sweep-place-under-requires t c κs =
 sweep-next-ranged-requires : (t : ℕ) → sweep-lts.Need-next-ranged-requires (sweep-claims t) (sweep-at t) sweep.Post
 sweep-next-ranged-requires t c κs =
     let s = c .before .before .before .before .before .before .before in
-    (steps.place-inside (s .args .table .now) (s .args .b) (s .pre .1 .0 .ready .ready .placed) (c .before .before .before .entry-at .result .b) _ (c .place-under .ensures), s .pre .1 .0 .ready .place)
+    (place-inside (s .args .table .now) (s .args .b) (s .pre .1 .0 .ready .ready .placed) (c .before .before .before .entry-at .result .b) _ (c .place-under .ensures), s .pre .1 .0 .ready .place)
 
 sweep-add-left : (t : ℕ) → sweep-lts.Need-add-left (sweep-claims t) (sweep-at t) sweep.Post
 sweep-add-left t c =

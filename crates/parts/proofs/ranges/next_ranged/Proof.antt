@@ -3,7 +3,7 @@ use Prim.Native.Nat.{_+_, _-_}
 use mathlib.Core.Path.{sym, ap, _∙_}
 use native.Mathlib.Omega.{arith}
 use Rattle.base.proofs.Search.{Passed, begin, hit, miss, none}
-use Rattle.parts.specs.Device.{rangedAt}
+use Rattle.engine.specs.Ready.{rangedAt}
 use Rattle.parts.proofs.ranges.next_ranged.Statement.{statement}
 use Rattle.parts.proofs.ranges.next_ranged.Tie as tie
 

@@ -1,5 +1,5 @@
 -- `parts::ranges::place_under` meets its contract. Assumes nothing.
-use Rattle.parts.proofs.Spans.{place-named}
+use Rattle.engine.proofs.Ranged.{place-named}
 use borrow.Author.Needs.{needs}
 use Rattle.parts.proofs.ranges.place_under.Statement.{statement}
 use Rattle.parts.proofs.ranges.place_under.Tie as tie
