@@ -1,4 +1,5 @@
 pub mod Published
 pub mod Stated
 pub mod Chains
+pub mod Inputs
 pub mod Cases
