@@ -33,7 +33,7 @@ PROGRAM = target/bin/gabzeril
 PROVED := crates.txt $(shell find crates \( -name '*.rt' -o -name '*.antt' \))
 
 LIBRARY = build/libgabzeril.a
-EXAMPLES = switch collector switch_set collector_set plan
+EXAMPLES = switch collector switch_set collector_set plan hide
 
 .PHONY: all demo help install uninstall examples sanitized-examples check-examples check-samples check-hostile clean
 

@@ -12,6 +12,10 @@
 # verdict that a plan foretells must be the collector's on the pool with the steps done by hand, on the whole tables
 # and on the full parts made of them. One plan, plan-optics.txt on optics.txt, has values below zero.
 #
+# Last, hidden values: what hide prints and writes is compared with `expected-hide`. For every rule of samples/ that is
+# accepted, on three pools: the collector's verdict on what hide wrote is the one before, marked rows and all columns but
+# the value are as they came, and hiding once more, with the same rows marked, gives the same file.
+#
 #   examples/run.sh [PROGRAMS]   the folder of the built programs; without it they are built with sanitizers
 set -eu
 here=$(cd "$(dirname "$0")" && pwd)
@@ -362,20 +366,20 @@ checksums > found-after
 same "plans" "$here/expected-plan" found
 same "files after wrong arguments of plan" found-before found-after
 
-# What the program prints in the folder above this one must stand in the manual, indented.
-shown_in_manual() { # plan
-    (cd "$here/.." && run "$programs/plan" "${book[@]/#/samples/}" -- examples/pool.txt -- "examples/$1.txt") |
-        sed -e '/^exit status/d' -e 's/./    &/' > found
+# What a program prints in the folder above this one must stand in the manual, indented.
+shown_in_manual() { # name program argument...
+    (cd "$here/.." && run "$programs/$2" "${@:3}") | sed -e '/^exit status/d' -e 's/./    &/' > found
     if [[ $(< "$here/../docs/MANUAL.md") == *"$(< found)"* ]]; then
         passed=$((passed + 1))
     else
         failed=$((failed + 1))
-        echo "not in the manual: what plan prints for $1"
+        echo "not in the manual: what $2 prints for $1"
     fi
 }
 
-shown_in_manual plan-move
-shown_in_manual plan-remove
+for plan in plan-move plan-remove; do
+    shown_in_manual "$plan" plan "${book[@]/#/samples/}" -- examples/pool.txt -- "examples/$plan.txt"
+done
 
 # The verdicts in the line of a step.
 foretold() { # step
@@ -434,6 +438,139 @@ for plan in plan-move plan-move-in-order plan-remove plan-new-switch; do
 done
 book=("${optics[@]}")
 check_plan plan-optics optics.txt
+
+# Hidden values. wrong.txt, full.txt, rules/empty.txt and rules/some-root-9.txt are made above.
+
+# What is printed, and the pool that is written.
+hide() { # rule pool
+    rm -f hidden.txt
+    run "$programs/hide" "$1" "$2" hidden.txt
+    [ ! -e hidden.txt ] || cat hidden.txt
+}
+
+# A pool of these rows.
+pool_of() { # row...
+    echo "device at up deep name value"
+    [ $# -eq 0 ] || printf '%s\n' "$@"
+}
+
+accepted_hidings() {
+    echo "a true rule"
+    hide rules/at-most-one-server.txt pool.txt
+    echo "a false rule"
+    hide rules/some-ntp-master.txt pool.txt
+    echo "values below zero: a true rule that marks all rows but two, and a false one"
+    hide rules/power-at-least-minus-24.txt optics.txt
+    hide rules/power-at-most-minus-3.txt strong.txt
+    echo "no row is marked"
+    hide rules/some-root-9.txt pool.txt
+    echo "every row is marked"
+    hide rules/receive-below-transmit.txt optics.txt
+    echo "no rows"
+    hide rules/at-most-one-server.txt none.txt
+    hide rules/some-device.txt none.txt
+    echo "marked values that are 0, 1, 3, 4 and -1"
+    hide rules/every-device.txt taken.txt
+    echo "1,024 rows, one of them marked"
+    hide rules/some-device.txt full.txt | sed '8,1024d'
+}
+
+refused_hidings() {
+    echo "a refused rule"
+    hide rules/unbound-variable.txt pool.txt
+    hide rules/sign-of-variable.txt pool.txt
+    hide rules/empty.txt pool.txt
+    echo "a refused pool"
+    hide rules/some-device.txt equal-roots.txt
+    hide rules/some-device.txt wrong.txt
+    hide pool.txt rules/some-device.txt
+}
+
+misused_hide() {
+    echo "hide, wrong arguments"
+    misused hide
+    misused hide rules/some-device.txt
+    misused hide rules/some-device.txt pool.txt
+    misused hide rules/some-device.txt pool.txt hidden.txt optics.txt
+    echo "hide, other files"
+    misused hide no-such-file.txt pool.txt hidden.txt
+    misused hide rules/some-device.txt no-such-file.txt hidden.txt
+    misused hide rules/some-device.txt pool.txt no-such-folder/hidden.txt
+    echo "hide, refused where there is a file already"
+    misused hide rules/unbound-variable.txt pool.txt hidden.txt
+    misused hide rules/some-device.txt equal-roots.txt hidden.txt
+}
+
+printf 'kind a b c\n5 1 0 1\n7 0 0 0\n' > rules/every-device.txt
+sed 's/-24$/-1/' optics.txt > strong.txt
+pool_of > none.txt
+pool_of '1 1 0 0 1 3' '1 2 1 1 2 0' '1 3 0 0 2 3' '2 1 0 0 1 0' '2 2 1 1 2 4' '2 3 1 1 2 9' '3 1 0 0 1 1' '3 2 1 1 2 1' \
+    '4 1 0 0 1 -1' '4 2 1 1 2 -1' '5 1 0 0 1 4' > taken.txt
+pool_of '1 1 0 0 1 11' '2 1 0 0 1 11' > equal-roots.txt
+{ accepted_hidings; refused_hidings; } > found
+cp pool.txt hidden.txt
+checksums > found-before
+misused_hide >> found
+checksums > found-after
+same "hidden values" "$here/expected-hide" found
+same "files after wrong arguments of hide" found-before found-after
+shown_in_manual some-ntp-master hide samples/rules/some-ntp-master.txt examples/pool.txt "$folder/hidden.txt"
+
+# All columns but the value.
+kept_columns() { # pool
+    run awk '{ print $1, $2, $3, $4, $5 }' "$1"
+}
+
+# The verdict of the collector, and the marked rows.
+verdict_and_marked() { # rule pool
+    run "$programs/collector" "$1" "$2" | sed -e '/^rows /d' -e 's/^ *//'
+}
+
+# The rows that the collector marked, without their names and values.
+marked_rows() { # file
+    sed -n '3,$p' "$1" | cut -d ' ' -f 1
+}
+
+# Those of these rows that the pool has not, with name and value.
+not_in() { # file pool
+    sed -n '3,$p' "$1" | sort > found-marked
+    awk 'NR > 1 { print $1 "/" $2, "name", $5, "value", $6 }' "$2" | sort | comm -23 found-marked -
+}
+
+twice=0
+check_hiding() { # rule pool
+    verdict_and_marked "$1" "$2" > whole
+    rm -f hidden.txt hidden-twice.txt
+    run "$programs/hide" "$1" "$2" hidden.txt > found
+    verdict_and_marked "$1" hidden.txt > found-marked-after
+    head -n 1 whole > whole-verdict
+    head -n 1 found-marked-after > found-verdict
+    same "verdict of $1 on $2 with hidden values" whole-verdict found-verdict
+    kept_columns "$2" > whole-columns
+    kept_columns hidden.txt > found-columns
+    same "columns of $2 with values hidden for $1" whole-columns found-columns
+    not_in whole hidden.txt > found-changed
+    same "marked rows of $2 with values hidden for $1" /dev/null found-changed
+    if [ "$(marked_rows whole)" = "$(marked_rows found-marked-after)" ]; then
+        run "$programs/hide" "$1" hidden.txt hidden-twice.txt > found
+        same "values of $2 hidden twice for $1" hidden.txt hidden-twice.txt
+        twice=$((twice + 1))
+    fi
+}
+
+for rule in rules/*.txt; do
+    if "$programs/collector" "$rule" > found 2>&1; then
+        for pool in pool.txt optics.txt taken.txt; do
+            check_hiding "$rule" "$pool"
+        done
+    fi
+done
+if [ "$twice" -ge 30 ]; then
+    passed=$((passed + 1))
+else
+    failed=$((failed + 1))
+    echo "values were hidden twice only $twice times"
+fi
 
 echo "examples: $passed passed, $failed failed"
 [ "$failed" -eq 0 ]

@@ -30,7 +30,7 @@ extern "C" {
 #endif
 
 /* The Makefile reads the version from this line. */
-#define GABZERIL_VERSION "0.7.0"
+#define GABZERIL_VERSION "0.7.1"
 
 /* Limits. */
 
@@ -241,7 +241,11 @@ gabzeril_answer gabzeril_verdict(const uint32_t *rule, size_t rule_length,
                                  const uint32_t *pool, size_t pool_length);
 
 /* The same, and a byte for each row of the pool: 1 if it is marked, else 0. Refusals 1 to 7, 8 to 12 with 26,
- * 17. */
+ * 17.
+ *
+ * "Look here and nowhere else": with other values in rows that are not marked, in any number of them, the verdict
+ * stays as it is, true or false, as long as the table is accepted and all its other words are as before. The
+ * marks may then be others. */
 gabzeril_answer gabzeril_marks(const uint32_t *rule, size_t rule_length,
                                const uint32_t *pool, size_t pool_length,
                                uint8_t *marks, size_t marks_length);

@@ -12,3 +12,4 @@ pub mod ffi;
 pub mod generate;
 pub mod largest;
 pub mod random;
+pub mod relied;

@@ -158,6 +158,13 @@ module _ {A B : Type 0} (f : A → List B) where
   concatMap-append [] ys = refl
   concatMap-append (x ∷ xs) ys = ap (_++_ (f x)) (concatMap-append xs ys) ∙ sym (append-assoc (f x) (concatMap f xs) (concatMap f ys))
 
+-- what is in one of the lists of the first is in one of the second
+pub concatMap-within : {A B : Type 0} (f g : A → List B) {xs ys : List A} {y : B}
+    → ((x : A) → x ∈ xs → (x ∈ ys) × ((z : B) → z ∈ f x → z ∈ g x)) → y ∈ concatMap f xs → y ∈ concatMap g ys
+concatMap-within f g {xs} {ys} {y} h m =
+    let w = concatMap-out f xs m in
+    concatMap-in g (h (w .0) (w .1) .0) (h (w .0) (w .1) .1 y (w .2))
+
 -- each element's list is a sublist of what stands for it in the whole
 pub concatMap-sub : {A B : Type 0} (f g : A → List B) {es ds : List A} → ((x : A) → x ∈ es → Sublistᴰ (f x) (g x)) → Sublistᴰ es ds → Sublistᴰ (concatMap f es) (concatMap g ds)
 concatMap-sub f g h Sublistᴰ·slnil = Sublistᴰ·slnil

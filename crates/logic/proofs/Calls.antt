@@ -11,10 +11,11 @@ use lib.Dec.{leb}
 use borrow.Author.Tests.{le-leb, eq-eqb}
 use Rattle.base.specs.Lists.{_∈_}
 use Rattle.base.proofs.Bools.{and-both}
+use Rattle.base.proofs.Lists.{map-same}
 use Rattle.tables.specs.Answers.{isDone, value, unless, fitting, output}
 use Rattle.tables.specs.Words.{rowWords, rowAt, rowCount, rowsFrom, rows}
 use Rattle.tables.specs.Rules.{one, checkRule, acceptedRule}
-use Rattle.tables.specs.Tables.{checkTable, acceptedTable}
+use Rattle.tables.specs.Tables.{sameRow, checkTable, acceptedTable}
 use Rattle.tables.specs.declared.Row.{Row}
 use Rattle.tables.specs.declared.Answer.{Answer}
 use Rattle.tables.specs.declared.Answer.the-variants.{Done}
@@ -27,13 +28,17 @@ use Rattle.logic.specs.Formulas.{Formula, formula, formulasOf}
 use Rattle.logic.specs.Verdict.{verdict, verdictAnswer, verdictBytes, setVerdictsAnswer, setVerdictsOut}
 use Rattle.logic.specs.Marks.{marked, markBytes, marksAnswer, marksOut}
 use Rattle.logic.specs.Parts.{partOf, wordsOf, otherDevice, sendAnswer, sendOut}
-use Rattle.logic.specs.Demand.{IsCut, OnlyShort, PartIsCut}
+use Rattle.logic.specs.Demand.{IsCut, OnlyShort, SameVerdicts, PartIsCut}
 use Rattle.logic.proofs.Words.{length-words, words-whole, rows-words}
 use Rattle.logic.proofs.Cuts.{mode-is-cut}
 
 pub one-true : (b : Bool) → one b ≡ 1 → b ≡ true
 one-true true e = refl
 one-true false e = absurd (omega arith)
+
+-- a row of the reason is marked
+pub same-itself : (r : Row) → sameRow r r ≡ true
+same-itself r = and-both _ _ (eq-eqb (r .device) (r .device) refl) (eq-eqb (r .at) (r .at) refl)
 
 module _ (rule table : List ℕ) (rule-ok : acceptedRule rule ≡ true) (table-ok : acceptedTable table ≡ true) where
   -- ---- the verdict
@@ -103,6 +108,21 @@ module _ (rules counts table : List ℕ) (set-ok : acceptedSet rules counts ≡ 
   pub bytes-are : (out : List ℕ) → setVerdictsOut rules counts table out ≡ output (fitting bytes (length out)) bytes out
   unfolding setVerdictsOut
   bytes-are out = ap (λ (a : Answer). output a bytes out) (verdicts-are (length out))
+
+-- two tables on which each rule has the same verdict
+pub same-verdicts : (rules counts s t : List ℕ) → acceptedSet rules counts ≡ true → acceptedTable s ≡ true → acceptedTable t ≡ true
+    → ((F : Formula) → F ∈ formulasOf rules counts → verdict F (rows s) ≡ verdict F (rows t)) → SameVerdicts rules counts s t
+same-verdicts rules counts s t set-ok s-ok t-ok same out =
+    let Fs = formulasOf rules counts in
+    let alike : verdictBytes Fs (rows s) ≡ verdictBytes Fs (rows t)
+    = map-same (λ F. one (verdict F (rows s))) (λ F. one (verdict F (rows t))) Fs (λ F m. ap one (same F m)) in (
+      verdicts-are rules counts s set-ok s-ok (length out)
+          ∙ ap (λ (l : List ℕ). fitting l (length out)) alike
+          ∙ sym (verdicts-are rules counts t set-ok t-ok (length out)),
+      bytes-are rules counts s set-ok s-ok out
+          ∙ ap (λ (l : List ℕ). output (fitting l (length out)) l out) alike
+          ∙ sym (bytes-are rules counts t set-ok t-ok out),
+    )
 
 -- ---- the part of one device's table, for what has passed its own checks
 module _ (checked : Answer) (checked-ok : isDone checked ≡ true) (Fs : List Formula) (table : List ℕ) (table-ok : acceptedTable table ≡ true) where

@@ -4,12 +4,9 @@ use mathlib.Core.Path.{_≡_, refl, sym, ap, subst, _∙_}
 use mathlib.Core.Bool.{Bool, true}
 use mathlib.Core.List.{List, [], _∷_, _++_, append-nil, Sublistᴰ, Sublistᴰ·refl, Sublistᴰ·eq-nil, Pairwise·sublistᴰ, Memᴰ·map}
 use lib.ListN.{length}
-use borrow.Author.Tests.{eq-eqb}
 use Rattle.base.specs.Lists.{_∈_, concatMap}
-use Rattle.base.proofs.Bools.{and-both}
-use Rattle.base.proofs.Lists.{concatMap-sub, map-same, map-sub, sub-in, sub-one}
+use Rattle.base.proofs.Lists.{concatMap-sub, map-sub, sub-in, sub-one}
 use Rattle.tables.specs.Words.{rowAt, rowsFrom, rows}
-use Rattle.tables.specs.Answers.{fitting, output}
 use Rattle.tables.specs.Rules.{one, acceptedRule}
 use Rattle.tables.specs.Tables.{sameRow, acceptedTable}
 use Rattle.tables.specs.Joining.{joinTables, joinAnswer}
@@ -21,7 +18,7 @@ use Rattle.tables.proofs.InPlace.{in-place-answer, in-place-table}
 use Rattle.tables.proofs.Proper.{rows-proper}
 use Rattle.tables.proofs.RowLists.{row-in, row-out}
 use Rattle.logic.specs.Formulas.{Formula, formula, formulasOf}
-use Rattle.logic.specs.Verdict.{verdict, verdictAnswer, verdictBytes}
+use Rattle.logic.specs.Verdict.{verdict, verdictAnswer}
 use Rattle.logic.specs.Marks.{marked}
 use Rattle.logic.specs.Parts.{wordsOf, spareForEach}
 use Rattle.logic.specs.Demand.{Device, IsCut, Sends, dump, join, taken, Given, InPlace, SameVerdicts, MarksKept, Claim}
@@ -29,7 +26,7 @@ use Rattle.logic.proofs.Words.{words-rows}
 use Rattle.logic.proofs.Cuts.{all-is-cut, cut-for}
 use Rattle.logic.proofs.Devices.{NoneTwice, ownOf, sentOf, Devices, verdict-same, marked-kept}
 use Rattle.logic.proofs.Joinings.{rows-concat, some-accepted, sent, sent-accepted, answers-short, parts-are, taken-sub}
-use Rattle.logic.proofs.Calls.{one-true, verdict-is, byte-is, verdicts-are, bytes-are, part-is-cut}
+use Rattle.logic.proofs.Calls.{same-itself, one-true, verdict-is, byte-is, same-verdicts, part-is-cut}
 
 -- ---- verdict and marks of one rule of the set, for dumps of any length: it is enough that each device's table is accepted
 module _ (Fs : List Formula) (ds : List Device) (twice : NoneTwice ds) (sends : (d : Device) → d ∈ ds → Sends Fs d) (tables : (d : Device) → d ∈ ds → acceptedTable (d .table) ≡ true) where
@@ -101,21 +98,8 @@ module _ (rules counts : List ℕ) (ds : List Device) (given : Given rules count
   same-verdict-of : (F : Formula) → F ∈ Fs → verdict F (rows (sent es)) ≡ verdict F (rows (dump es))
   same-verdict-of = any-length-verdict Fs es twice sends tables
 
-  same-bytes : verdictBytes Fs (rows (sent es)) ≡ verdictBytes Fs (rows (dump es))
-  same-bytes = map-same (λ F. one (verdict F (rows (sent es)))) (λ F. one (verdict F (rows (dump es)))) Fs (λ F m. ap one (same-verdict-of F m))
-
   same-answers : SameVerdicts rules counts (sent es) (dump es)
-  same-answers out = (
-    verdicts-are rules counts (sent es) (given .set-accepted) sent-ok (length out)
-        ∙ ap (λ (l : List ℕ). fitting l (length out)) same-bytes
-        ∙ sym (verdicts-are rules counts (dump es) (given .set-accepted) dump-ok (length out)),
-    bytes-are rules counts (sent es) (given .set-accepted) sent-ok out
-        ∙ ap (λ (l : List ℕ). output (fitting l (length out)) l out) same-bytes
-        ∙ sym (bytes-are rules counts (dump es) (given .set-accepted) dump-ok out),
-  )
-
-  same-refl : (r : Row) → sameRow r r ≡ true
-  same-refl r = and-both _ _ (eq-eqb (r .device) (r .device) refl) (eq-eqb (r .at) (r .at) refl)
+  same-answers = same-verdicts rules counts (sent es) (dump es) (given .set-accepted) sent-ok dump-ok same-verdict-of
 
   -- ---- for each rule
   module _ (rule : List ℕ) (m : rule ∈ rulesOf rules counts) where
@@ -143,7 +127,7 @@ module _ (rules counts : List ℕ) (ds : List Device) (given : Given rules count
         = subst (λ (x : Row). marked F (rows (dump es)) x ≡ true) (w .2) (any-length-marks Fs es twice sends tables F of r mark) in (
           w .0,
           w .1,
-          subst (λ (x : Row). sameRow r x ≡ true) (w .2) (same-refl r),
+          subst (λ (x : Row). sameRow r x ≡ true) (w .2) (same-itself r),
           byte-is rule (dump es) rule-ok dump-ok out′ room′ (w .0) (w .1) ∙ ap one dumped,
         )
 

@@ -9,6 +9,7 @@ use Rattle.tables.specs.declared.Row.{Row}
 use Rattle.logic.specs.Formulas.{Quantifier, every, some}
 use Rattle.logic.specs.Verdict.{settled, both, fold}
 use Rattle.logic.specs.Marks.{decides, firstDeciding, witnesses}
+use Rattle.logic.proofs.Walks.{settled-left, settled-right}
 
 both-settled : (q : Quantifier) (a b : Bool) → a ≡ settled q → b ≡ settled q → both q a b ≡ settled q
 both-settled every a b e h = and-both a b e h
@@ -33,9 +34,17 @@ both-skip every false b e = absurd (false≢true e)
 both-skip some true b e = absurd (true≢false e)
 both-skip some false b e = refl
 
+pub fold-settled : (q : Quantifier) (f : Row → Bool) (xs : List Row) → ((r : Row) → r ∈ xs → f r ≡ settled q) → fold q f xs ≡ settled q
+fold-settled q f [] h = refl
+fold-settled q f (x ∷ xs) h =
+    both-settled q (f x) (fold q f xs) (h x (List·Memᴰ·head refl)) (fold-settled q f xs (λ r m. h r (List·Memᴰ·tail m)))
+
 pub fold-all : (q : Quantifier) (f : Row → Bool) (xs : List Row) → ((r : Row) → f r ≡ settled q) → fold q f xs ≡ settled q
-fold-all q f [] h = refl
-fold-all q f (x ∷ xs) h = both-settled q (f x) (fold q f xs) (h x) (fold-all q f xs h)
+fold-all q f xs h = fold-settled q f xs (λ r m. h r)
+
+pub fold-at : (q : Quantifier) (f : Row → Bool) {r : Row} {xs : List Row} → r ∈ xs → fold q f xs ≡ settled q → f r ≡ settled q
+fold-at q f (List·Memᴰ·head {x = y} {xs = ys} e) h = ap f e ∙ settled-left q (f y) (fold q f ys) h
+fold-at q f (List·Memᴰ·tail {x = y} {xs = ys} m) h = fold-at q f m (settled-right q (f y) (fold q f ys) h)
 
 pub fold-hit : (q : Quantifier) (f : Row → Bool) {r : Row} {xs : List Row} → r ∈ xs → f r ≡ not (settled q) → fold q f xs ≡ not (settled q)
 fold-hit q f (List·Memᴰ·head {x = y} {xs = ys} e) h = both-first q (f y) (fold q f ys) (subst (λ (z : Row). f z ≡ not (settled q)) e h)

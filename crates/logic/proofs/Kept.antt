@@ -1,7 +1,7 @@
 -- A step of a plan leaves the verdict of a formula none of whose quantifiers reaches the step's row. Assumes nothing.
 use Prim.Native.Nat.{ℕ, _*_}
-use mathlib.Core.Path.{_≡_, refl, sym, ap, ap₂, subst, _∙_}
-use mathlib.Core.Bool.{Bool, true, false, _&&_, true≢false}
+use mathlib.Core.Path.{_≡_, refl, sym, ap, subst, _∙_}
+use mathlib.Core.Bool.{Bool, true, false, true≢false}
 use mathlib.Core.List.{List, _∷_, _++_}
 use lib.ListN.{length}
 use Rattle.base.specs.Lists.{put, select}
@@ -9,26 +9,21 @@ use Rattle.base.proofs.Bools.{either}
 use Rattle.base.proofs.Lists.{select-append}
 use Rattle.tables.specs.Answers.{isDone}
 use Rattle.tables.specs.Words.{rowWords, rowAt, rowCount, rows}
-use Rattle.tables.specs.Tables.{root, acceptedTable}
+use Rattle.tables.specs.Tables.{acceptedTable}
 use Rattle.tables.specs.declared.Row.{Row}
 use Rattle.tables.proofs.Accepted.{whole-rows}
 use Rattle.plans.specs.Plans.{removing, stepRow, placeFor, stepPlace, withValue, tableAfter}
 use Rattle.plans.proofs.Changes.{by-kind, set-adds-none, remove-adds-none, front, behind-it, from-it, rows-before, rows-around, rows-set, rows-add, rows-remove, row-set, row-add}
-use Rattle.logic.specs.Formulas.{Formula, Over, roots, under}
-use Rattle.logic.specs.Verdict.{Place, nothing, bound, Bindings, hangs, ranges, verdict}
+use Rattle.logic.specs.Formulas.{Formula, Over}
+use Rattle.logic.specs.Verdict.{Bindings, ranges, verdict}
 use Rattle.logic.specs.Parts.{reached}
 use Rattle.logic.specs.Trial.{UnreachedKept}
-use Rattle.logic.proofs.Names.{same-name}
+use Rattle.logic.proofs.Ranging.{ranges-same}
 use Rattle.logic.proofs.Untouched.{Alike, verdict-same}
 
 -- a quantifier does not look at values
 ranges-value : (o : Over) (n : ℕ) (b : Bindings) (v : ℕ) (r : Row) → ranges o n b (withValue v r) ≡ ranges o n b r
-ranges-value roots n b v r = ap (λ (x : Bool). root r && x) (same-name n (withValue v r) r refl)
-ranges-value (under u) n b v r = ap₂ _&&_ (go (b u)) (same-name n (withValue v r) r refl)
-  where
-    go : (p : Place) → hangs p (withValue v r) ≡ hangs p r
-    go nothing = refl
-    go (bound q) = refl
+ranges-value o n b v r = ranges-same r (withValue v r) refl refl o n b refl
 
 -- a row that doesn't pass the test makes no difference
 select-skip : (f : Row → Bool) (A C : List Row) {x : Row} → f x ≡ false → select f (A ++ (x ∷ C)) ≡ select f (A ++ C)

@@ -21,6 +21,9 @@ pub mod EntryTree
 pub mod Nesting
 pub mod Walks
 pub mod Reasons
+pub mod Ranging
+pub mod Enough
+pub mod Unmarked
 pub mod Untouched
 pub mod Kept
 pub mod Runs

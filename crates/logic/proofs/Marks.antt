@@ -1,15 +1,16 @@
 -- What is marked on the table with spare rows left out is marked on the whole table. Assumes nothing.
 use Prim.Native.Nat.{ℕ, suc}
+use mathlib.Core.Path.{_≡_}
 use mathlib.Core.Logic.{_⊎_, inl, inr}
 use mathlib.Core.Bool.{Bool, true, false, cond}
-use mathlib.Core.List.{List, [], _∷_, _++_, List·Memᴰ·append-cases, Memᴰ·append-left, Memᴰ·append-right}
-use Rattle.base.specs.Lists.{_∈_, select, concatMap}
+use mathlib.Core.List.{List, _∷_, _++_, List·Memᴰ·head, List·Memᴰ·tail, List·Memᴰ·append-cases, Memᴰ·append-left, Memᴰ·append-right}
+use Rattle.base.specs.Lists.{_∈_, select}
 use Rattle.base.proofs.Bools.{and-left, and-right}
-use Rattle.base.proofs.Lists.{select-out, concatMap-in, concatMap-out}
+use Rattle.base.proofs.Lists.{select-out, concatMap-within}
 use Rattle.tables.specs.declared.Row.{Row}
 use Rattle.logic.specs.Formulas.{Formula, negation, joined, quantified, compared, Connective}
 use Rattle.logic.specs.Verdict.{bound, Bindings, bind, ranges, holds}
-use Rattle.logic.specs.Marks.{leftDecides, rightDecides, because, witnesses, reason}
+use Rattle.logic.specs.Marks.{because, witnesses, reason}
 use Rattle.logic.specs.Parts.{Chains, spareIn}
 use Rattle.logic.proofs.Folds.{witnesses-thin, witnesses-in}
 use Rattle.logic.proofs.Sound.{owned}
@@ -26,9 +27,14 @@ append-in {x} a a′ c c′ h k m = go (List·Memᴰ·append-cases a m)
     go (inl l) = Memᴰ·append-left c′ (h l)
     go (inr l) = Memᴰ·append-right a′ (k l)
 
+cons-in : {x y : Row} {a a′ : List Row} → (x ∈ a → x ∈ a′) → x ∈ (y ∷ a) → x ∈ (y ∷ a′)
+cons-in h (List·Memᴰ·head e) = List·Memᴰ·head e
+cons-in h (List·Memᴰ·tail m) = List·Memᴰ·tail (h m)
+
+-- by laws that hold whichever side's rows a connective takes; so below, with a quantifier's bodies or without
 because-in : {x : Row} (c : Connective) (a b : Bool) (l l′ r r′ : List Row) → (x ∈ l → x ∈ l′) → (x ∈ r → x ∈ r′)
     → x ∈ because c a b l r → x ∈ because c a b l′ r′
-because-in c a b l l′ r r′ h k m = cond-in (leftDecides c a) h (cond-in (rightDecides c b) k (append-in l l′ r r′ h k)) m
+because-in c a b l l′ r r′ h k = search (cond-in, append-in, h, k)
 
 module _ (T : List Row) (keep : Row → Bool) where
   pub marks-kept : (φ : Formula) (d : ℕ) (K : List Row → Chains) (ρ : Bindings) → Fine T keep d K ρ → Spared T keep φ d K
@@ -36,12 +42,15 @@ module _ (T : List Row) (keep : Row → Bool) where
   unfolding reason spareIn
   marks-kept (negation φ) d K ρ h s x m = marks-kept φ d K ρ h s x m
   marks-kept (joined c φ ψ) d K ρ h s x m =
-      let sl : Spared T keep φ d K = λ r i k a. and-left (spareIn φ (owned (r .device) T) d (K (owned (r .device) T)) r) (spareIn ψ (owned (r .device) T) d (K (owned (r .device) T)) r) (s r i k a) in
-      let sr : Spared T keep ψ d K = λ r i k a. and-right (spareIn φ (owned (r .device) T) d (K (owned (r .device) T)) r) (spareIn ψ (owned (r .device) T) d (K (owned (r .device) T)) r) (s r i k a) in
+      let sl : Spared T keep φ d K = λ r i k a. let D = owned (r .device) T in and-left (spareIn φ D d (K D) r) (spareIn ψ D d (K D) r) (s r i k a) in
+      let sr : Spared T keep ψ d K = λ r i k a. let D = owned (r .device) T in and-right (spareIn φ D d (K D) r) (spareIn ψ D d (K D) r) (s r i k a) in
       rw (same-verdict T keep φ d K ρ h sl, same-verdict T keep ψ d K ρ h sr)
-      (because-in c (holds φ (select keep T) d ρ) (holds ψ (select keep T) d ρ) (reason φ (select keep T) d ρ) (reason φ T d ρ) (reason ψ (select keep T) d ρ) (reason ψ T d ρ)
+      (because-in c (holds φ (select keep T) d ρ) (holds ψ (select keep T) d ρ) _ _ _ _
       (marks-kept φ d K ρ h sl x) (marks-kept ψ d K ρ h sr x) m)
-  marks-kept (quantified q o n φ) d K ρ h s x m = go (λ r f. marks-kept φ (suc d) (deeper o n d K) (bind d (bound r) ρ) f sb) (concatMap-out _ _ m)
+  marks-kept (quantified q o n φ) d K ρ h s x m = concatMap-within _ _ (λ r i. (
+    witnesses-thin q f g (ranges o n ρ) keep T (thin T keep q o n φ d K ρ h s g same) i,
+    λ y. search (cons-in, marks-kept φ (suc d) (deeper o n d K) (bind d (bound r) ρ) (fine r i) body y),
+  )) m
     where
       f : Row → Bool
       f r = holds φ T (suc d) (bind d (bound r) ρ)
@@ -49,21 +58,15 @@ module _ (T : List Row) (keep : Row → Bool) where
       g : Row → Bool
       g r = holds φ (select keep T) (suc d) (bind d (bound r) ρ)
 
-      sb : Spared T keep φ (suc d) (deeper o n d K)
-      sb r i k a = spare-body q o n φ (owned (r .device) T) d (K (owned (r .device) T)) r (s r i k a)
+      body : Spared T keep φ (suc d) (deeper o n d K)
+      body r i k a = spare-body q o n φ (owned (r .device) T) d (K (owned (r .device) T)) r (s r i k a)
 
-      under : (r : Row) → (x ∈ reason φ (select keep T) (suc d) (bind d (bound r) ρ) → x ∈ reason φ T (suc d) (bind d (bound r) ρ))
-          → x ∈ (r ∷ reason φ (select keep T) (suc d) (bind d (bound r) ρ)) → x ∈ (r ∷ reason φ T (suc d) (bind d (bound r) ρ))
-      under r ih k = append-in (r ∷ []) (r ∷ []) _ _ (λ l. l) ih k
+      same : (r : Row) → Fine T keep (suc d) (deeper o n d K) (bind d (bound r) ρ) → f r ≡ g r
+      same r k = same-verdict T keep φ (suc d) (deeper o n d K) (bind d (bound r) ρ) k body
 
-      go : ((r : Row) → Fine T keep (suc d) (deeper o n d K) (bind d (bound r) ρ) → (y : Row) → y ∈ reason φ (select keep T) (suc d) (bind d (bound r) ρ) → y ∈ reason φ T (suc d) (bind d (bound r) ρ))
-          → (r : Row) × (r ∈ witnesses q g (select (ranges o n ρ) (select keep T))) × (x ∈ (r ∷ reason φ (select keep T) (suc d) (bind d (bound r) ρ)))
-          → x ∈ concatMap (λ r. r ∷ reason φ T (suc d) (bind d (bound r) ρ)) (witnesses q f (select (ranges o n ρ) T))
-      go ih w =
-          let r = w .0 in
-          let a = select-out (ranges o n ρ) (select keep T) (witnesses-in q g (select (ranges o n ρ) (select keep T)) (w .1)) in
-          let b = select-out keep T (a .0) in
-          concatMap-in (λ r. r ∷ reason φ T (suc d) (bind d (bound r) ρ))
-          (witnesses-thin q f g (ranges o n ρ) keep T (thin T keep q o n φ d K ρ h s g (λ r k. same-verdict T keep φ (suc d) (deeper o n d K) (bind d (bound r) ρ) k sb)) (w .1))
-          (under r (ih r (fine-bind T keep o n d K ρ h r (b .0) (b .1) (a .1)) x) (w .2))
+      fine : (r : Row) → r ∈ witnesses q g (select (ranges o n ρ) (select keep T)) → Fine T keep (suc d) (deeper o n d K) (bind d (bound r) ρ)
+      fine r i =
+          let ranged = select-out (ranges o n ρ) (select keep T) (witnesses-in q g (select (ranges o n ρ) (select keep T)) i) in
+          let kept = select-out keep T (ranged .0) in
+          fine-bind T keep o n d K ρ h r (kept .0) (kept .1) (ranged .1)
   marks-kept (compared c v w) d K ρ h s x m = m

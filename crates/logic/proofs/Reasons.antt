@@ -1,12 +1,13 @@
--- The rows that decide a quantifier, found by their numbers. Assumes nothing.
+-- The rows that decide a quantifier, in a list and by their numbers. Assumes nothing.
 use Prim.Native.Nat.{ℕ, zero, suc, _+_, _<_, _≤_}
-use mathlib.Core.Path.{_≡_, refl, sym, _∙_}
+use mathlib.Core.Path.{_≡_, refl, sym, ap, _∙_}
 use mathlib.Core.Logic.{⊎-elim}
-use mathlib.Core.Bool.{Bool, true, false, _&&_, true≢false}
-use mathlib.Core.List.{List, [], _∷_}
+use mathlib.Core.Bool.{Bool, true, false, not, _&&_, true≢false}
+use mathlib.Core.List.{List, [], _∷_, List·Memᴰ·head, List·Memᴰ·tail}
 use native.Mathlib.Nat.{eq-or-lt-of-le}
 use native.Mathlib.Omega.{arith}
-use Rattle.base.specs.Lists.{put, select}
+use Rattle.base.specs.Lists.{_∈_, put, select}
+use Rattle.base.proofs.Bools.{either}
 use Rattle.tables.specs.Words.{rowAt, rowsFrom}
 use Rattle.tables.specs.declared.Row.{Row}
 use Rattle.logic.specs.Formulas.{Quantifier, every, some}
@@ -18,7 +19,7 @@ pub settled-undecided : (q : Quantifier) → decides q (settled q) ≡ false
 settled-undecided every = refl
 settled-undecided some = refl
 
-undecided-settled : (q : Quantifier) (a : Bool) → decides q a ≡ false → a ≡ settled q
+pub undecided-settled : (q : Quantifier) (a : Bool) → decides q a ≡ false → a ≡ settled q
 undecided-settled every true e = refl
 undecided-settled every false e = absurd (true≢false e)
 undecided-settled some a e = e
@@ -29,7 +30,22 @@ unsettled-decides every false h = refl
 unsettled-decides some true h = refl
 unsettled-decides some false h = absurd (h refl)
 
+pub decided-unsettled : (q : Quantifier) (a : Bool) → decides q a ≡ true → a ≡ not (settled q)
+decided-unsettled every true e = absurd (true≢false (sym e))
+decided-unsettled every false e = refl
+decided-unsettled some a e = e
+
 module _ (q : Quantifier) (f : Row → Bool) where
+  -- where a quantifier is decided, the first row that decides is one of its rows
+  pub first-found : (xs : List Row) → decides q (fold q f xs) ≡ true
+      → (w : Row) × (w ∈ xs) × (w ∈ firstDeciding q f xs) × (decides q (f w) ≡ true)
+  first-found [] e = absurd (true≢false (sym e ∙ settled-undecided q))
+  first-found (x ∷ xs) e = either (decides q (f x))
+      (λ k. (x, List·Memᴰ·head refl, rw k (List·Memᴰ·head refl), k))
+      (λ k. let skip = both-settled q (f x) (fold q f xs) (undecided-settled q (f x) k) in
+      let w = first-found xs (sym (ap (decides q) skip) ∙ e) in
+      (w .0, List·Memᴰ·tail (w .1), rw k (w .2), w .3))
+
   -- where no row decides, every row counts
   pub witnesses-all : (rs : List Row) → fold q f rs ≡ settled q → witnesses q f rs ≡ rs
   witnesses-all rs e = rw (e, settled-undecided q)

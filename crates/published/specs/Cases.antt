@@ -1,6 +1,6 @@
 -- 01's worked pools (a) to (l), numbers of every width, values below zero, the reductions that lose a verdict, readings over roots,
--- quantifiers over any name, sets of rules, plans, and a table on which the published meaning is not that of rows: the rows of one
--- table, with one test over all of them, proved in proofs/Cases. Assumes nothing.
+-- quantifiers over any name, marks that are relied on, sets of rules, plans, and a table on which the published meaning is not that of
+-- rows: the rows of one table, with one test over all of them, proved in proofs/Cases. Assumes nothing.
 use Prim.Native.Nat.{ℕ, _+_, _-_, _*_}
 use mathlib.Core.Path.{_≡_}
 use mathlib.Core.Bool.{Bool, true, false, not, cond, _&&_}
@@ -27,10 +27,10 @@ use Rattle.logic.specs.Marks.{marksAnswer, marksOut}
 use Rattle.logic.specs.Parts.{spare, partAnswer, partOut, setPartAnswer, setPartOut}
 use Rattle.logic.specs.Trial.{trialOutcome, returnedBy, appendedBy}
 use Rattle.published.specs.Inputs.{row, entry, D1, D2, D3, D4, ruleA, ruleB, nested, beside, everyIs, everyCompares, everyIsEither, someOrEvery}
-use Rattle.published.specs.Inputs.{pulledToFront, everyHasOne, everyBelowHasOne, aThenB, ruleAddresses, nothingZero, interfaceWith, someRootIs}
-use Rattle.published.specs.Inputs.{everyChildHasOne, twoChildren, someEqualsBelow, router, someAbove, keepsRoots, rootsAndChild, setStep}
-use Rattle.published.specs.Inputs.{addStep, removeStep, secondServer, tenTo, nines, textThen, line, lineBelow, digit, limitWith, rowTo, entryTo}
-use Rattle.published.specs.Inputs.{shortLine}
+use Rattle.published.specs.Inputs.{everyEqualsSome, someAndSome, pulledToFront, everyHasOne, everyBelowHasOne, aThenB, ruleAddresses}
+use Rattle.published.specs.Inputs.{nothingZero, interfaceWith, someRootIs, everyChildHasOne, twoChildren, someEqualsBelow, router, someAbove}
+use Rattle.published.specs.Inputs.{keepsRoots, rootsAndChild, setStep, addStep, removeStep, secondServer, tenTo, nines, textThen, line}
+use Rattle.published.specs.Inputs.{lineBelow, digit, limitWith, rowTo, entryTo, shortLine}
 use Rattle.published.specs.Published.{CL, NOT, OR, IMPLIES, SOME, EACH, EQUAL, SOMEPAIR, EACHPAIR, _is_}
 use Rattle.published.specs.Stated.{noStanding, stated, published}
 
@@ -279,6 +279,29 @@ cases =
     -- paths of two pairs
     ∷ judged ruleAddresses (router 77) false (key 1 1 ++ key 1 2 ++ key 1 3 ++ key 1 4 ++ key 1 5)
     ∷ judged ruleAddresses (router 78) true (key 1 1 ++ key 1 2 ++ key 1 3 ++ key 1 4 ++ key 1 5)
+    -- marks can be relied on: (c), (f) and (g) with another value in each unmarked row keep their verdicts; the marks of (c) and (f) then are others
+    ∷ judged ruleA (row 1 1 0 0 1 21 ++ row 1 2 1 1 2 7 ++ row 1 3 1 1 3 0 ++ row 2 1 0 0 1 22 ++ row 2 2 1 1 2 8 ++ D3) false (key 1 1 ++ key 1 2)
+    ∷ judged ruleB (row 1 1 0 0 1 11 ++ row 1 2 1 1 2 1 ++ row 1 3 1 1 3 2 ++ D2) true (key 1 1 ++ key 1 2 ++ key 2 1 ++ key 2 2)
+    ∷ judged ruleB (row 1 1 0 0 1 11 ++ row 1 2 1 1 2 2 ++ row 1 3 1 1 3 2 ++ row 2 1 0 0 1 22 ++ row 2 2 1 1 2 9 ++ D4) false
+    (key 1 1 ++ key 1 2 ++ key 4 1 ++ key 4 2)
+    -- an and that is true is so by both sides, and a quantifier by its bodies, too: here the value of 1/2 turns the verdict
+    ∷ judged someAndSome (row 1 1 0 0 1 1 ++ row 1 2 0 0 2 2) true (key 1 1 ++ key 1 2)
+    ∷ judged someAndSome (row 1 1 0 0 1 1 ++ row 1 2 0 0 2 3) false (key 1 2)
+    ∷ judged everyHasOne (row 1 1 0 0 1 5 ++ row 1 2 1 1 2 1) true (key 1 1 ++ key 1 2)
+    ∷ judged everyHasOne (row 1 1 0 0 1 5 ++ row 1 2 1 1 2 3) false (key 1 1 ++ key 1 2)
+    -- names, parents and numbers are to be kept: an unmarked row with another name or parent is ranged over, and with other numbers the row
+    -- that makes the rule true hangs under another
+    ∷ judged (everyIs 1) (row 1 1 0 0 1 1 ++ row 1 2 0 0 2 3) true (key 1 1)
+    ∷ judged (everyIs 1) (row 1 1 0 0 1 1 ++ row 1 2 0 0 1 3) false (key 1 2)
+    ∷ judged (everyIs 1) (row 1 1 0 0 2 5 ++ row 1 2 1 1 1 2) true []
+    ∷ judged (everyIs 1) (row 1 1 0 0 2 5 ++ row 1 2 0 0 1 2) false (key 1 2)
+    ∷ judged everyHasOne (row 1 1 0 0 9 0 ++ row 1 2 0 0 1 0 ++ row 1 3 2 1 2 1) true (key 1 2 ++ key 1 3)
+    ∷ judged everyHasOne (row 1 2 0 0 9 0 ++ row 1 3 0 0 1 0 ++ row 1 4 2 1 2 1) false (key 1 3)
+    -- they are about the table that is marked, not about what a part was made of: the a is left out for the b's sake, which is not marked then;
+    -- with another value of that b the rule is false
+    ∷ sends everyEqualsSome 3 (row 1 1 0 0 1 5 ++ row 1 2 0 0 2 5) (row 1 2 0 0 2 5)
+    ∷ judged everyEqualsSome (row 1 2 0 0 2 5) true []
+    ∷ judged everyEqualsSome (row 1 1 0 0 1 5 ++ row 1 2 0 0 2 6) false (key 1 1 ++ key 1 2)
     -- any name: 3 lets 0 pass in a quantifier and nothing above 65,535, and 9 refuses it in rows
     ∷ ruleChecked (someRootIs 5) (Done 2)
     ∷ ruleChecked (entry 6 1 0 65535 ++ entry 7 0 1 5) (Done 2)

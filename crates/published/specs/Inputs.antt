@@ -58,6 +58,14 @@ everyIsEither = entry 5 1 0 1 ++ entry 3 2 3 0 ++ entry 7 0 1 1 ++ entry 7 0 1 2
 abbrev pub someOrEvery : List ℕ
 someOrEvery = entry 3 1 3 0 ++ entry 6 2 0 2 ++ entry 7 0 1 1 ++ entry 5 4 0 1 ++ entry 7 0 1 1
 
+-- every a equals some b
+abbrev pub everyEqualsSome : List ℕ
+everyEqualsSome = entry 5 1 0 1 ++ entry 6 2 0 2 ++ entry 7 0 0 1
+
+-- some a is 1, and some b is 2
+abbrev pub someAndSome : List ℕ
+someAndSome = entry 2 1 3 0 ++ entry 6 2 0 1 ++ entry 7 0 1 1 ++ entry 6 4 0 2 ++ entry 7 0 1 2
+
 -- some b, every a: b is 1 or a is 1
 abbrev pub pulledToFront : List ℕ
 pulledToFront = entry 6 1 0 2 ++ entry 5 2 0 1 ++ entry 3 3 4 0 ++ entry 7 0 1 1 ++ entry 7 1 1 1

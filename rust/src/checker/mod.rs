@@ -43,10 +43,10 @@ pub use report::{report, report_text, MOST_FILE_BYTES};
 pub use rule::{accepted_rule, check_rule, ENTRY_WORDS, MOST_ENTRIES, MOST_NESTED};
 pub use set::{accepted_set, check_set, rules_of, set_part, set_verdicts, verdicts_on, MOST_RULES};
 pub use spare::{spare_rows, spare_rows_reached_by};
-pub use table::{accepted_table, check_table, rows_of, words_of, Row, MOST_ROWS, ROW_WORDS};
+pub use table::{accepted_table, check_table, parent_of, rows_of, words_of, Row, MOST_ROWS, ROW_WORDS};
 pub use trial::{rows_after, tried, try_plan, Room, Tried, ADD, REMOVE, SET, STEP_WORDS};
 pub use values::{value_of, word_of, LEAST_VALUE, MOST_VALUE};
-pub use verdict::verdict;
+pub use verdict::{verdict, Evaluation};
 
 /// The largest device, at or name.
 pub const MOST_NAME: u32 = 65_535;

@@ -3,6 +3,7 @@
 mod answers;
 mod any_name;
 mod chains;
+mod changes;
 mod collisions;
 mod conjunction;
 mod cost;
@@ -23,6 +24,7 @@ mod lengths;
 mod library_hash;
 mod nested;
 mod order_of_words;
+mod other_markings;
 #[cfg(test)]
 mod plan_tests;
 mod plans;
@@ -39,6 +41,7 @@ mod together;
 mod vocabulary;
 
 pub use any_name::{has_any_name, widened, Narrow, OneSided};
+pub use changes::{changes, with_other_name, with_other_parent, with_other_values, Change, Changes};
 pub use collisions::{colliding_rows, two_colliding_tables};
 pub use conjunction::conjunction;
 pub use cost::{files_cost, reading_cost, set_cost, verdict_cost};
@@ -63,6 +66,7 @@ pub use nested::{nested_rule, NestedRule};
 pub use order_of_words::{
     other_marks, other_part, other_trial, other_verdict, other_verdicts, OTHER_TRIAL, OTHER_VERDICT,
 };
+pub use other_markings::OtherMarking;
 pub use plans::{plan, plan_on_a_full_table, plan_on_colliding_rows, Plan, PlanLimit};
 pub use pools::{pool, pool_of, PoolShape};
 pub use requests::{one_or_several, unknown_mode, with_another_device};
