@@ -3,18 +3,13 @@ use mathlib.Core.Path.{_≡_, refl, ap, subst, _∙_}
 use mathlib.Core.Bool.{Bool, true, false, not, cond, true≢false, false≢true}
 use mathlib.Core.List.{List, [], _∷_, List·Memᴰ·head, List·Memᴰ·tail, List·Memᴰ·eq-of-singleton}
 use Rattle.base.specs.Lists.{_∈_, put, select}
-use Rattle.base.proofs.Bools.{and-both}
 use Rattle.base.proofs.Lists.{select-in, select-out}
 use Rattle.tables.specs.declared.Row.{Row}
 use Rattle.logic.specs.Formulas.{Quantifier, every, some}
 use Rattle.logic.specs.Verdict.{settled, both, fold}
 use Rattle.logic.specs.Marks.{decides, firstDeciding, witnesses}
-use Rattle.logic.proofs.Walks.{settled-left, settled-right}
-
-both-settled : (q : Quantifier) (a b : Bool) → a ≡ settled q → b ≡ settled q → both q a b ≡ settled q
-both-settled every a b e h = and-both a b e h
-both-settled some true b e h = e
-both-settled some false b e h = h
+use Rattle.logic.proofs.Walks.{both-settled, settled-left, settled-right}
+use Rattle.logic.proofs.Reasons.{settled-undecided}
 
 both-first : (q : Quantifier) (a b : Bool) → a ≡ not (settled q) → both q a b ≡ not (settled q)
 both-first every true b e = absurd (true≢false e)
@@ -28,16 +23,10 @@ both-second every false b e = refl
 both-second some true b e = refl
 both-second some false b e = e
 
-both-skip : (q : Quantifier) (a b : Bool) → a ≡ settled q → both q a b ≡ b
-both-skip every true b e = refl
-both-skip every false b e = absurd (false≢true e)
-both-skip some true b e = absurd (true≢false e)
-both-skip some false b e = refl
-
 pub fold-settled : (q : Quantifier) (f : Row → Bool) (xs : List Row) → ((r : Row) → r ∈ xs → f r ≡ settled q) → fold q f xs ≡ settled q
 fold-settled q f [] h = refl
 fold-settled q f (x ∷ xs) h =
-    both-settled q (f x) (fold q f xs) (h x (List·Memᴰ·head refl)) (fold-settled q f xs (λ r m. h r (List·Memᴰ·tail m)))
+    both-settled q (f x) (fold q f xs) (h x (List·Memᴰ·head refl)) ∙ fold-settled q f xs (λ r m. h r (List·Memᴰ·tail m))
 
 pub fold-all : (q : Quantifier) (f : Row → Bool) (xs : List Row) → ((r : Row) → f r ≡ settled q) → fold q f xs ≡ settled q
 fold-all q f xs h = fold-settled q f xs (λ r m. h r)
@@ -63,16 +52,12 @@ module _ (q : Quantifier) (f g : Row → Bool) (P keep : Row → Bool) where
       go : (b c : Bool) → P x ≡ b → keep x ≡ c → fold q f (select P xs) ≡ fold q g (select P (select keep xs))
           → fold q f (put b x (select P xs)) ≡ fold q g (select P (put c x (select keep xs)))
       go true true e k ih = rw (e, h x (List·Memᴰ·head refl) e .0 k) (ap (both q (g x)) ih)
-      go true false e k ih = both-skip q (f x) (fold q f (select P xs)) (h x (List·Memᴰ·head refl) e .1 k) ∙ ih
+      go true false e k ih = both-settled q (f x) (fold q f (select P xs)) (h x (List·Memᴰ·head refl) e .1 k) ∙ ih
       go false true e k ih = rw e ih
       go false false e k ih = ih
 
   not-deciding : (a : Bool) → a ≡ settled q → decides q a ≡ false
-  not-deciding a e = rw e (never q)
-    where
-      never : (k : Quantifier) → decides k (settled k) ≡ false
-      never every = refl
-      never some = refl
+  not-deciding a e = rw e (settled-undecided q)
 
   first-thin : (xs : List Row) → Thin xs → firstDeciding q f (select P xs) ≡ firstDeciding q g (select P (select keep xs))
   first-thin [] h = refl

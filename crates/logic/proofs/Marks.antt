@@ -5,7 +5,6 @@ use mathlib.Core.Logic.{_⊎_, inl, inr}
 use mathlib.Core.Bool.{Bool, true, false, cond}
 use mathlib.Core.List.{List, _∷_, _++_, List·Memᴰ·head, List·Memᴰ·tail, List·Memᴰ·append-cases, Memᴰ·append-left, Memᴰ·append-right}
 use Rattle.base.specs.Lists.{_∈_, select}
-use Rattle.base.proofs.Bools.{and-left, and-right}
 use Rattle.base.proofs.Lists.{select-out, concatMap-within}
 use Rattle.tables.specs.declared.Row.{Row}
 use Rattle.logic.specs.Formulas.{Formula, negation, joined, quantified, compared, Connective}
@@ -13,8 +12,7 @@ use Rattle.logic.specs.Verdict.{bound, Bindings, bind, ranges, holds}
 use Rattle.logic.specs.Marks.{because, witnesses, reason}
 use Rattle.logic.specs.Parts.{Chains, spareIn}
 use Rattle.logic.proofs.Folds.{witnesses-thin, witnesses-in}
-use Rattle.logic.proofs.Sound.{owned}
-use Rattle.logic.proofs.Verdict.{Fine, Spared, deeper, spare-body, fine-bind, thin, same-verdict}
+use Rattle.logic.proofs.Verdict.{Fine, Spared, spared-left, spared-right, spared-body, deeper, fine-bind, thin, same-verdict}
 
 cond-in : {x : Row} {a a′ c c′ : List Row} (b : Bool) → (x ∈ a → x ∈ a′) → (x ∈ c → x ∈ c′) → x ∈ cond b a c → x ∈ cond b a′ c′
 cond-in true h k m = h m
@@ -42,8 +40,8 @@ module _ (T : List Row) (keep : Row → Bool) where
   unfolding reason spareIn
   marks-kept (negation φ) d K ρ h s x m = marks-kept φ d K ρ h s x m
   marks-kept (joined c φ ψ) d K ρ h s x m =
-      let sl : Spared T keep φ d K = λ r i k a. let D = owned (r .device) T in and-left (spareIn φ D d (K D) r) (spareIn ψ D d (K D) r) (s r i k a) in
-      let sr : Spared T keep ψ d K = λ r i k a. let D = owned (r .device) T in and-right (spareIn φ D d (K D) r) (spareIn ψ D d (K D) r) (s r i k a) in
+      let sl = spared-left T keep c φ ψ d K s in
+      let sr = spared-right T keep c φ ψ d K s in
       rw (same-verdict T keep φ d K ρ h sl, same-verdict T keep ψ d K ρ h sr)
       (because-in c (holds φ (select keep T) d ρ) (holds ψ (select keep T) d ρ) _ _ _ _
       (marks-kept φ d K ρ h sl x) (marks-kept ψ d K ρ h sr x) m)
@@ -59,7 +57,7 @@ module _ (T : List Row) (keep : Row → Bool) where
       g r = holds φ (select keep T) (suc d) (bind d (bound r) ρ)
 
       body : Spared T keep φ (suc d) (deeper o n d K)
-      body r i k a = spare-body q o n φ (owned (r .device) T) d (K (owned (r .device) T)) r (s r i k a)
+      body = spared-body T keep q o n φ d K s
 
       same : (r : Row) → Fine T keep (suc d) (deeper o n d K) (bind d (bound r) ρ) → f r ≡ g r
       same r k = same-verdict T keep φ (suc d) (deeper o n d K) (bind d (bound r) ρ) k body

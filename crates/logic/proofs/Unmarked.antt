@@ -106,7 +106,7 @@ module _ (rule t s out : List ℕ) (rule-ok : acceptedRule rule ≡ true) (t-ok 
   same-answer = verdict-is rule s rule-ok s-ok ∙ ap (λ (b : Bool). Done (one b)) same-verdict ∙ sym (verdict-is rule t rule-ok t-ok)
 
 pub marks-suffice : MarksSuffice
-marks-suffice = same-answer
+marks-suffice rule t s out rule-ok t-ok s-ok room changed = same-answer rule t s out rule-ok t-ok s-ok room changed
 
 pub set-marks-suffice : SetMarksSuffice
 set-marks-suffice rules counts t s out set-ok t-ok s-ok room changed =

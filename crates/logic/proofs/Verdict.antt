@@ -13,7 +13,7 @@ use Rattle.base.proofs.Lists.{select-in, all-at, concatMap-in, when-in}
 use Rattle.tables.specs.Tables.{root, isParent}
 use Rattle.tables.specs.declared.Row.{Row}
 use Rattle.tables.proofs.Accepted.{parent-device}
-use Rattle.logic.specs.Formulas.{Formula, negation, joined, quantified, compared, Quantifier, Over, roots, under}
+use Rattle.logic.specs.Formulas.{Formula, negation, joined, quantified, compared, Quantifier, Connective, Over, roots, under}
 use Rattle.logic.specs.Verdict.{Place, nothing, bound, Bindings, bind, noneBound, connect, settled, named, hangs, ranges, holds}
 use Rattle.logic.specs.Reading.{reads, reading}
 use Rattle.logic.specs.Parts.{Chains, chainsWith, reach, spareIn}
@@ -43,7 +43,7 @@ module _ (q : Quantifier) (o : Over) (n : ℕ) (φ : Formula) (D : List Row) (d 
   unfolding spareIn
   spare-here = and-left _ (spareIn φ D (suc d) (chainsWith d (reach D o n d K) K) r) h
 
-  pub spare-body : spareIn φ D (suc d) (chainsWith d (reach D o n d K) K) r ≡ true
+  spare-body : spareIn φ D (suc d) (chainsWith d (reach D o n d K) K) r ≡ true
   unfolding spareIn
   spare-body = and-right (all (λ b. reads (settled q) (reading φ D (suc d) b)) (reach D o n d K r)) _ h
 
@@ -123,6 +123,19 @@ module _ (T : List Row) (keep : Row → Bool) where
   abbrev pub Spared : Formula → ℕ → (List Row → Chains) → Type 0
   Spared φ d K = (r : Row) → r ∈ T → keep r ≡ false → Attached r → spareIn φ (owned (r .device) T) d (K (owned (r .device) T)) r ≡ true
 
+  module _ (c : Connective) (φ ψ : Formula) (d : ℕ) (K : List Row → Chains) (s : Spared (joined c φ ψ) d K) where
+    pub spared-left : Spared φ d K
+    unfolding spareIn
+    spared-left r m k a = let D = owned (r .device) T in and-left (spareIn φ D d (K D) r) (spareIn ψ D d (K D) r) (s r m k a)
+
+    pub spared-right : Spared ψ d K
+    unfolding spareIn
+    spared-right r m k a = let D = owned (r .device) T in and-right (spareIn φ D d (K D) r) (spareIn ψ D d (K D) r) (s r m k a)
+
+  pub spared-body : (q : Quantifier) (o : Over) (n : ℕ) (φ : Formula) (d : ℕ) (K : List Row → Chains) → Spared (quantified q o n φ) d K
+      → Spared φ (suc d) (deeper o n d K)
+  spared-body q o n φ d K s r m k a = let D = owned (r .device) T in spare-body q o n φ D d (K D) r (s r m k a)
+
   pub thin : (q : Quantifier) (o : Over) (n : ℕ) (φ : Formula) (d : ℕ) (K : List Row → Chains) (ρ : Bindings) → Fine d K ρ → Spared (quantified q o n φ) d K
       → (g : Row → Bool) → ((r : Row) → Fine (suc d) (deeper o n d K) (bind d (bound r) ρ) → holds φ T (suc d) (bind d (bound r) ρ) ≡ g r)
       → (r : Row) → r ∈ T → ranges o n ρ r ≡ true
@@ -142,10 +155,10 @@ module _ (T : List Row) (keep : Row → Bool) where
   same-verdict (negation φ) d K ρ h s = ap not (same-verdict φ d K ρ h s)
   same-verdict (joined c φ ψ) d K ρ h s =
       ap₂ (connect c)
-      (same-verdict φ d K ρ h (λ r m k a. and-left (spareIn φ (owned (r .device) T) d (K (owned (r .device) T)) r) (spareIn ψ (owned (r .device) T) d (K (owned (r .device) T)) r) (s r m k a)))
-      (same-verdict ψ d K ρ h (λ r m k a. and-right (spareIn φ (owned (r .device) T) d (K (owned (r .device) T)) r) (spareIn ψ (owned (r .device) T) d (K (owned (r .device) T)) r) (s r m k a)))
+      (same-verdict φ d K ρ h (spared-left c φ ψ d K s))
+      (same-verdict ψ d K ρ h (spared-right c φ ψ d K s))
   same-verdict (quantified q o n φ) d K ρ h s =
       fold-thin q (λ r. holds φ T (suc d) (bind d (bound r) ρ)) (λ r. holds φ (select keep T) (suc d) (bind d (bound r) ρ)) (ranges o n ρ) keep T
       (thin q o n φ d K ρ h s (λ r. holds φ (select keep T) (suc d) (bind d (bound r) ρ))
-      (λ r f. same-verdict φ (suc d) (deeper o n d K) (bind d (bound r) ρ) f (λ x m k a. spare-body q o n φ (owned (x .device) T) d (K (owned (x .device) T)) x (s x m k a))))
+      (λ r f. same-verdict φ (suc d) (deeper o n d K) (bind d (bound r) ρ) f (spared-body q o n φ d K s)))
   same-verdict (compared c v w) d K ρ h s = refl
