@@ -100,15 +100,47 @@ void load_set(char **paths, struct set *set)
     check_set(set, paths);
 }
 
-void save_pool(const char *path, const uint32_t *table, size_t table_length)
+/* What is written, so many bytes of `file`. */
+static void save_file(const char *path, gabzeril_answer written)
 {
     const char *name = path == NULL ? "standard output" : path;
-    size_t length = accepted(gabzeril_write_pool(table, table_length, file, sizeof file), name);
+    size_t length = accepted(written, name);
     FILE *stream = path == NULL ? stdout : fopen(path, "wb");
     if (stream == NULL || fwrite(file, 1, length, stream) != length || fclose(stream) != 0) {
         perror(name);
         exit(refused_status);
     }
+}
+
+void save_rule(const char *path, const uint32_t *rule, size_t rule_length)
+{
+    save_file(path, gabzeril_write_rule(rule, rule_length, file, sizeof file));
+}
+
+void save_pool(const char *path, const uint32_t *table, size_t table_length)
+{
+    save_file(path, gabzeril_write_pool(table, table_length, file, sizeof file));
+}
+
+/* Ten digits are below 2 to the power of 34, so nothing wraps. */
+int read_number(const char *text, int is_value, uint32_t *word)
+{
+    int minus = is_value && text[0] == '-';
+    int64_t sum = 0, least = is_value ? GABZERIL_VALUE_LEAST : 0, most = is_value ? GABZERIL_VALUE_LIMIT : UINT32_MAX;
+    const char *digits = text + minus;
+    size_t length = strspn(digits, "0123456789");
+    if (length == 0 || length > 10 || digits[length] != '\0' || (digits[0] == '0' && (minus || length > 1))) {
+        return 0;
+    }
+    for (size_t i = 0; i < length; i++) {
+        sum = 10 * sum + (digits[i] - '0');
+    }
+    sum = minus ? -sum : sum;
+    if (sum < least || sum > most) {
+        return 0;
+    }
+    *word = is_value ? gabzeril_word((int32_t)sum) : (uint32_t)sum;
+    return 1;
 }
 
 size_t accepted(gabzeril_answer answer, const char *subject)

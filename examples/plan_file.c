@@ -90,28 +90,6 @@ static int read_line(FILE *stream, struct line *line)
     return some;
 }
 
-/* 0 if the word is no number of that column: a value may be below zero, and zero has no sign. Ten digits are below 2
- * to the power of 34, so nothing wraps. */
-static int read_number(const char *word, int column, uint32_t *number)
-{
-    int is_value = column == GABZERIL_VALUE, minus = is_value && word[0] == '-';
-    int64_t sum = 0, least = is_value ? GABZERIL_VALUE_LEAST : 0, most = is_value ? GABZERIL_VALUE_LIMIT : UINT32_MAX;
-    const char *digits = word + minus;
-    size_t length = strspn(digits, "0123456789");
-    if (length == 0 || length > 10 || digits[length] != '\0' || (digits[0] == '0' && (minus || length > 1))) {
-        return 0;
-    }
-    for (size_t i = 0; i < length; i++) {
-        sum = 10 * sum + (digits[i] - '0');
-    }
-    sum = minus ? -sum : sum;
-    if (sum < least || sum > most) {
-        return 0;
-    }
-    *number = is_value ? gabzeril_word((int32_t)sum) : (uint32_t)sum;
-    return 1;
-}
-
 static _Noreturn void refuse_line(const char *path, const struct line *line, const char *what, const char *of)
 {
     fprintf(stderr, "%s, line %zu: %s%s\n", path, line->number, what, of);
@@ -140,7 +118,7 @@ static void read_step(const char *path, const struct line *line, uint32_t step[G
     }
     for (size_t i = 0; i < form->count; i++) {
         int column = form->columns[i];
-        if (!read_number(line->words[1 + i], column, &step[1 + column])) {
+        if (!read_number(line->words[1 + i], column == GABZERIL_VALUE, &step[1 + column])) {
             refuse_line(path, line, column_names[column], column == GABZERIL_VALUE ? no_value : no_number);
         }
     }

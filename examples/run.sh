@@ -12,9 +12,13 @@
 # verdict that a plan foretells must be the collector's on the pool with the steps done by hand, on the whole tables
 # and on the full parts made of them. One plan, plan-optics.txt on optics.txt, has values below zero.
 #
-# Last, hidden values: what hide prints and writes is compared with `expected-hide`. For every rule of samples/ that is
+# Then hidden values: what hide prints and writes is compared with `expected-hide`. For every rule of samples/ that is
 # accepted, on three pools: the collector's verdict on what hide wrote is the one before, marked rows and all columns but
 # the value are as they came, and hiding once more, with the same rows marked, gives the same file.
+#
+# Last, templates: house-template.txt is filled for two sites, and what fill prints and writes is compared with
+# `expected-fill`. Every rule of samples/ that is accepted comes back, byte for byte, when its constants are made blanks by
+# hand and filled in again; so it does, without parameters, as it is.
 #
 #   examples/run.sh [PROGRAMS]   the folder of the built programs; without it they are built with sanitizers
 set -eu
@@ -570,6 +574,156 @@ if [ "$twice" -ge 30 ]; then
 else
     failed=$((failed + 1))
     echo "values were hidden twice only $twice times"
+fi
+
+# Templates. equal-roots.txt and none.txt are made above.
+
+# What is printed, and the rule that is written.
+fill_in() { # template pool parameter...
+    rm -f filled.txt
+    run "$programs/fill" "$1" "$2" filled.txt "${@:3}"
+    [ ! -e filled.txt ] || cat filled.txt
+}
+
+# The house template for a site.
+fill() { # pool parameter...
+    fill_in house-template.txt "$@"
+}
+
+accepted_fillings() {
+    echo "one template, two sites"
+    fill site-harbour.txt 120 -24
+    fill site-hill.txt 130 -18
+    echo "the collector with the rule of the hill"
+    run "$programs/collector" filled.txt site-hill.txt | head -n 2
+    echo "each site with the other's parameters, and the harbour with a higher threshold"
+    fill site-harbour.txt 130 -18
+    fill site-hill.txt 120 -24
+    fill site-harbour.txt 120 -23 | head -n 2
+    echo "the parameters exchanged"
+    fill site-harbour.txt -24 120
+    echo "the least value and the largest; no rows"
+    fill none.txt 2147483647 -2147483648
+    echo "a false rule without marked rows"
+    fill_in some-device-template.txt none.txt 11
+    echo "one number three times, and 16 parameters"
+    sed 's/2 1$/2 0/' house-template.txt > once.txt
+    fill_in once.txt none.txt -1
+    template_of 16 > sixteen.txt
+    fill_in sixteen.txt none.txt {-8..7} | tail -n 3
+    echo "no blanks and no parameters"
+    fill_in rules/some-device.txt site-hill.txt
+}
+
+# Every device is one of so many parameters.
+template_of() { # parameters
+    awk -v n="$1" 'BEGIN {
+        print "kind a b c"
+        print "5 1 0 1"
+        for (i = 0; i < n - 1; i++) { print 3, 2 * i + 2, 2 * i + 3, 0; print 7, 0, 2, i }
+        print 7, 0, 2, n - 1
+    }'
+}
+
+refused_fillings() {
+    echo "a parameter too few, and none"
+    fill site-harbour.txt 120
+    fill site-harbour.txt
+    echo "a parameter too many"
+    fill site-harbour.txt 120 -24 9000
+    fill_in rules/some-device.txt site-harbour.txt 120
+    echo "17 parameters, all of them used; then one of them missing"
+    template_of 17 > seventeen.txt
+    fill_in seventeen.txt none.txt {1..17}
+    fill_in seventeen.txt none.txt {1..16}
+    echo "a number left out"
+    sed 's/2 1$/2 2/' house-template.txt > gap.txt
+    fill_in gap.txt site-harbour.txt 120 -24 -24
+    fill_in gap.txt site-harbour.txt 120 -24
+    echo "a refused template: its first line, a sign in a number, b = 3, an unbound variable, no entries"
+    fill_in site-harbour.txt site-harbour.txt 120 -24
+    sed 's/2 1$/2 -1/' house-template.txt > wrong-template.txt
+    fill_in wrong-template.txt site-harbour.txt 120 -24
+    sed 's/^8 2 2 /8 2 3 /' house-template.txt > wrong-template.txt
+    fill_in wrong-template.txt site-harbour.txt 120 -24
+    sed 's/^8 2 2 /8 3 2 /' house-template.txt > wrong-template.txt
+    fill_in wrong-template.txt site-harbour.txt 120 -24
+    fill_in rules/empty.txt site-harbour.txt
+    echo "a refused pool"
+    fill equal-roots.txt 120 -24
+    echo "a template is no rule"
+    run "$programs/collector" house-template.txt site-harbour.txt
+    run "$programs/switch" house-template.txt site-harbour.txt 1
+    run "$programs/collector_set" rules/some-device.txt house-template.txt -- site-harbour.txt
+}
+
+misused_fill() {
+    echo "fill, wrong arguments"
+    misused fill
+    misused fill house-template.txt
+    misused fill house-template.txt site-harbour.txt
+    echo "fill, parameters that are no numbers"
+    for text in x '' - -0 +1 007 1.5 0x10 2147483648 -2147483649 4294967272 '1 2' 1- 18446744073709551617; do
+        misused fill house-template.txt site-harbour.txt filled.txt 120 "$text"
+    done
+    echo "fill, other files"
+    misused fill no-such-file.txt site-harbour.txt filled.txt 120 -24
+    misused fill house-template.txt no-such-file.txt filled.txt 120 -24
+    misused fill house-template.txt site-harbour.txt no-such-folder/filled.txt 120 -24
+    echo "fill, refused where there is a file already"
+    misused fill house-template.txt site-harbour.txt filled.txt 120
+    misused fill house-template.txt equal-roots.txt filled.txt 120 -24
+}
+
+sed 's/ 0 0$/ 2 0/' rules/some-device.txt > some-device-template.txt
+{ accepted_fillings; refused_fillings; } > found
+cp rules/some-device.txt filled.txt
+checksums > found-before
+misused_fill >> found
+checksums > found-after
+same "templates" "$here/expected-fill" found
+same "files after wrong arguments of fill" found-before found-after
+filling_in_manual() { # site parameter...
+    shown_in_manual "$1" fill examples/house-template.txt "examples/$1.txt" "$folder/filled.txt" "${@:2}"
+}
+filling_in_manual site-harbour 120 -24
+filling_in_manual site-hill 130 -18
+filling_in_manual site-harbour 130 -18
+
+# A rule with its constants as blanks, those with one value with one number; the values go to constants.txt.
+blanked() { # rule
+    : > constants.txt
+    awk '$1 >= 7 && $3 == 1 && NR > 1 {
+        if (!($4 in number)) { number[$4] = count++; print $4 > "constants.txt" }
+        $3 = 2; $4 = number[$4]
+    } { print }' "$1"
+}
+
+comes_back=0
+check_filling() { # rule pool
+    local constants
+    blanked "$1" > blanked.txt
+    mapfile -t constants < constants.txt
+    { run "$programs/collector" "$1" "$2" | grep '^verdict'; cat "$1"; } > whole
+    { fill_in blanked.txt "$2" "${constants[@]}" | sed -e '/^parameters/d' -e 's/^\(verdict [a-z]*\).*/\1/'; } > found
+    same "$1 with its constants filled in, on $2" whole found
+    { fill_in "$1" "$2" | sed -e '/^parameters/d' -e 's/^\(verdict [a-z]*\).*/\1/'; } > found
+    same "$1 filled as it is, on $2" whole found
+    comes_back=$((comes_back + (${#constants[@]} > 0)))
+}
+
+for rule in rules/*.txt; do
+    if "$programs/collector" "$rule" > found 2>&1; then
+        for pool in pool.txt site-harbour.txt; do
+            check_filling "$rule" "$pool"
+        done
+    fi
+done
+if [ "$comes_back" -ge 20 ]; then
+    passed=$((passed + 1))
+else
+    failed=$((failed + 1))
+    echo "constants were filled in only $comes_back times"
 fi
 
 echo "examples: $passed passed, $failed failed"

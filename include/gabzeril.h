@@ -4,12 +4,14 @@
  *
  * Rules and tables are runs of 32-bit words that the caller lends: a rule has four words an entry
  * (kind a b c), a table six words a row (device at up deep name value). A set is rules laid end to end, and
- * a word for each that counts its entries. A plan has seven words a step, a kind and the words of a row.
- * Words are numbers from 0 up, but for the value of a row and the constant of a comparison: there a word from
- * 2147483648 up stands for a number below zero, the word less 4294967296; see gabzeril_word and gabzeril_value.
- * Lengths are in words for rules, counts, tables and plans, in bytes for files, marks and verdicts. NULL with
- * length 0 is an empty run. The library keeps no pointer, allocates nothing and has no state: calls on different
- * buffers may run side by side. Buffers of one call must not overlap.
+ * a word for each that counts its entries. A plan has seven words a step, a kind and the words of a row. A
+ * template is a rule with blanks, and parameters are a word each.
+ * Words are numbers from 0 up, but for the value of a row, the constant of a comparison and a parameter: there a
+ * word from 2147483648 up stands for a number below zero, the word less 4294967296; see gabzeril_word and
+ * gabzeril_value.
+ * Lengths are in words for rules, templates, parameters, counts, tables and plans, in bytes for files, marks
+ * and verdicts. NULL with length 0 is an empty run. The library keeps no pointer, allocates nothing and has no
+ * state: calls on different buffers may run side by side. Buffers of one call must not overlap.
  *
  * A refused call changes no byte of any buffer. An accepted call writes its answer at the start of its
  * output and leaves what lies past it. gabzeril_try is the exception: stopped at a step, it names the refusal and
@@ -30,17 +32,18 @@ extern "C" {
 #endif
 
 /* The Makefile reads the version from this line. */
-#define GABZERIL_VERSION "0.7.1"
+#define GABZERIL_VERSION "0.8.0"
 
 /* Limits. */
 
-#define GABZERIL_ENTRY_WORDS 4   /* of an entry */
-#define GABZERIL_ROW_WORDS 6     /* of a row */
-#define GABZERIL_STEP_WORDS 7    /* of a step: its kind, then a row */
-#define GABZERIL_ENTRY_LIMIT 128 /* a rule has 1 to so many entries */
-#define GABZERIL_ROW_LIMIT 1024  /* a table has 0 to so many rows */
-#define GABZERIL_NESTING_LIMIT 6 /* so many quantifiers stand around one another at most */
-#define GABZERIL_SET_LIMIT 32    /* a set has 1 to so many rules */
+#define GABZERIL_ENTRY_WORDS 4      /* of an entry */
+#define GABZERIL_ROW_WORDS 6        /* of a row */
+#define GABZERIL_STEP_WORDS 7       /* of a step: its kind, then a row */
+#define GABZERIL_ENTRY_LIMIT 128    /* a rule has 1 to so many entries */
+#define GABZERIL_ROW_LIMIT 1024     /* a table has 0 to so many rows */
+#define GABZERIL_NESTING_LIMIT 6    /* so many quantifiers stand around one another at most */
+#define GABZERIL_SET_LIMIT 32       /* a set has 1 to so many rules */
+#define GABZERIL_PARAMETER_LIMIT 16 /* a template is filled with 0 to so many parameters */
 
 #define GABZERIL_NAME_LIMIT 65535              /* device, at and name are 1 to this; a quantifier's name too, or GABZERIL_ANY_NAME */
 #define GABZERIL_ANY_NAME 0                    /* a quantifier with this name takes rows of any name; no row has it */
@@ -88,9 +91,10 @@ enum gabzeril_kind {
 #define GABZERIL_ROOTS 0
 #define GABZERIL_UNDER(variable) (1 + (variable))
 
-/* b of a comparison: what c is. */
+/* b of a comparison: what c is. GABZERIL_PARAMETER stands in templates only, and c is a parameter's number then. */
 #define GABZERIL_VARIABLE 0
 #define GABZERIL_CONSTANT 1
+#define GABZERIL_PARAMETER 2
 
 /* The word that stands for a value or constant, 4294967295 for -1, and the value or constant that a word stands for.
  * Comparisons follow the order of the values and not that of the words. Both functions belong to this header and not
@@ -111,7 +115,7 @@ enum gabzeril_mode { GABZERIL_ALL = 1, GABZERIL_BRANCH = 2, GABZERIL_FULL = 3 };
 /* The kinds of step. */
 enum gabzeril_step { GABZERIL_STEP_SET = 1, GABZERIL_STEP_ADD = 2, GABZERIL_STEP_REMOVE = 3 };
 
-/* The numbers of the refusals. 15, 21 and 22 are not used. A table is tested for 8, 9, 10, 11, 26 and 12, in
+/* The numbers of the refusals. 15 is not used. A table is tested for 8, 9, 10, 11, 26 and 12, in
  * this order; these are called "8 to 12 with 26" below. */
 enum gabzeril_refusal {
     GABZERIL_ACCEPTED = 0,
@@ -134,6 +138,8 @@ enum gabzeril_refusal {
     GABZERIL_REFUSED_FIRST_LINE = 18,
     GABZERIL_REFUSED_LINE = 19,
     GABZERIL_REFUSED_COUNTS = 20,
+    GABZERIL_REFUSED_BLANK = 21,
+    GABZERIL_REFUSED_PARAMETERS = 22,
     GABZERIL_REFUSED_STEP = 23,
     GABZERIL_REFUSED_ABSENT = 24,
     GABZERIL_REFUSED_REMOVAL = 25,
@@ -147,7 +153,7 @@ static inline const char *gabzeril_refusal_text(uint32_t number)
         /* 0 */ "accepted",
         /* 1 */ "the rule is empty, too long or not whole entries",
         /* 2 */ "unknown kind",
-        /* 3 */ "a word that must be 0 is not, b of a comparison is above 1, or a name is out of range",
+        /* 3 */ "a word that must be 0 is not, b of a comparison is too high, or a name is out of range",
         /* 4 */ "a child is not a later entry of the rule",
         /* 5 */ "an entry other than 0 is not the child of exactly one place",
         /* 6 */ "too many quantifiers around one another",
@@ -165,8 +171,8 @@ static inline const char *gabzeril_refusal_text(uint32_t number)
         /* 18 */ "the file's first line is wrong or not ended",
         /* 19 */ "a line of the file is not ended, or has a number too few or too many, out of range or written wrongly",
         /* 20 */ "the counts are none, too many or do not add up to the entries",
-        /* 21 */ "not used",
-        /* 22 */ "not used",
+        /* 21 */ "a parameter number has no parameter",
+        /* 22 */ "there are too many parameters, or one is never used",
         /* 23 */ "unknown kind of step, or the last step lacks words",
         /* 24 */ "the row to set or remove is not there",
         /* 25 */ "the row to remove has rows under it",
@@ -198,6 +204,27 @@ typedef struct gabzeril_span {
 
 /* Refusals 1 to 7. Value: the number of entries. */
 gabzeril_answer gabzeril_check_rule(const uint32_t *rule, size_t rule_length);
+
+/* Templates. A template is a rule in which a comparison may have GABZERIL_PARAMETER as its b: a blank. Its c is the
+ * number of a parameter, from 0; several blanks may have the same. A quantifier or connective with b = 2 is no
+ * blank, and names can't be left open. A parameter may be any word, as a constant may.
+ *
+ * gabzeril_fill puts the parameters into the template: each blank gets GABZERIL_CONSTANT as its b and the
+ * parameter as its c, and all else is the template's. What is written is an ordinary rule of as many entries. Its
+ * verdict on any pool is that of the template with each parameter read in its place. With no parameters, a
+ * template without blanks is filled to itself.
+ *
+ * Refusals 1 to 7 of the template, where 3 allows blanks, with any c; 21 at the first blank whose number has no
+ * parameter; 22, place 0, if there are more than GABZERIL_PARAMETER_LIMIT parameters or one whose number no blank
+ * has; 17 if `rule`, another buffer than the template's, is shorter than it. Value: the number of words written, as
+ * many as the template has.
+ *
+ * Every other call that checks a rule refuses a blank with 3, gabzeril_write_rule too; gabzeril_read_rule does not
+ * check, and reads a template's file. */
+gabzeril_answer gabzeril_fill(const uint32_t *template_words, /* `template` is a keyword of C++ */
+                              size_t template_length,
+                              const uint32_t *parameters, size_t parameters_length,
+                              uint32_t *rule, size_t rule_length);
 
 /* Refusals 8 to 12 with 26. Value: the number of rows. */
 gabzeril_answer gabzeril_check_table(const uint32_t *table, size_t table_length);

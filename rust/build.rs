@@ -3,7 +3,7 @@
 use std::env;
 use std::path::PathBuf;
 
-const FEATURES: [&str; 6] = ["LOWER", "ENGINE", "PARTS", "FILES_ENTRY", "SETS", "TRIAL"];
+const FEATURES: [&str; 7] = ["LOWER", "ENGINE", "PARTS", "FILES_ENTRY", "SETS", "TRIAL", "TEMPLATES"];
 
 fn main() {
     let manifest = PathBuf::from(env::var_os("CARGO_MANIFEST_DIR").expect("set by cargo"));

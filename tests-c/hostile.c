@@ -1,11 +1,12 @@
 /* Damaged rule and pool files through gabzeril_check_files and gabzeril_report; signs and the order of values, in
  * hostile_values.c, through the calls that read, write and compare; damaged sets of rules, in hostile_sets.c,
- * through the three calls on sets; damaged plans, in hostile_trial.c, through gabzeril_try.
+ * through the three calls on sets; damaged plans, in hostile_trial.c, through gabzeril_try; damaged templates, in
+ * hostile_templates.c, through gabzeril_fill.
  *
  *     hostile [CASES [SEED [FIRST]]]
  *
  * Case number n from FIRST on depends on SEED and n alone, so that one case can be run again. It is two files,
- * two values to compare and, if n is even, a set, else a plan.
+ * two values to compare, a set if n is even, else a plan, and a template.
  *
  * A sanitizer sees only code that was compiled with it, and the library's archive is not. So every buffer
  * lies against a page without access, at its end or at its start, and inputs are on pages that are read-only
@@ -167,12 +168,13 @@ void set_entry(struct rule *rule, uint32_t at, uint32_t kind, uint32_t a, uint32
     memcpy(rule->words + 4 * at, words, sizeof words);
 }
 
+/* With a variable or a constant; at times a blank, which only templates may have. */
 static void set_comparison(struct rule *rule, uint32_t at, uint32_t bound)
 {
-    uint32_t constant = below(2);
+    uint32_t b = chance(1) ? GABZERIL_PARAMETER : below(2);
     uint32_t variables = bound == 0 || chance(2) ? bound + 1 : bound;
-    uint32_t left = below(variables), right = constant ? some_value(5) : below(variables);
-    set_entry(rule, at, GABZERIL_EQUAL + below(3), left, constant, right);
+    uint32_t left = below(variables), right = b == GABZERIL_CONSTANT ? some_value(5) : below(variables);
+    set_entry(rule, at, GABZERIL_EQUAL + below(3), left, b, right);
 }
 
 void add_formula(struct rule *rule, uint32_t depth, uint32_t bound)
@@ -261,7 +263,8 @@ void add_many_rows(struct table *table)
 static const char *const pieces[] = {" ", "  ", "\n", "\n\n", "\r\n", "\t", "\0", "0", "9", "-", "-1", "+1",
                                      "4294967295", "4294967296", "18446744073709551616", "2147483648",
                                      "-2147483648", "-2147483649", "-0", "65536", "00", "1 1 1 1\n", "1 1 0 1 1\n",
-                                     "1 1 0 0 1 -1\n", "7 0 1 -1\n", "7 0 0 -1\n", pool_row, rule_line, pool_line};
+                                     "1 1 0 0 1 -1\n", "7 0 1 -1\n", "7 0 0 -1\n", "7 0 2 0\n", "7 0 2 -1\n",
+                                     "7 0 2 4294967295\n", pool_row, rule_line, pool_line};
 
 /* What a file may end with. */
 static const char *const endings[] = {"-", " -", "-\n", "-1", "1 1 0 0 1 -", "1 1 0 0 1 -1", "1 1 0 0 1 -\n", "7 0 1 -",
@@ -562,7 +565,8 @@ static int run_case(uint64_t seed, unsigned long number)
     random_state = (seed << 32) + number;
     int good_files = run_files(), good_order = run_order();
     random_state = ~random_state;
-    return (number % 2 == 0 ? run_set() : run_plan()) && good_files && good_order;
+    int good_rules = number % 2 == 0 ? run_set() : run_plan();
+    return run_template() && good_files && good_order && good_rules;
 }
 
 /* The harness itself. */
@@ -615,6 +619,7 @@ static void make_areas(void)
     make_areas_of_values();
     make_areas_of_sets();
     make_areas_of_plans();
+    make_areas_of_templates();
 }
 
 static void print_seen(void)
@@ -666,8 +671,9 @@ int main(int argc, char **argv)
     print_seen_by_values();
     print_seen_by_sets();
     print_seen_by_plans();
+    print_seen_by_templates();
     if (cases >= MANY_CASES) {
-        failed += count_unseen() + count_unseen_by_sets() + count_unseen_by_plans();
+        failed += count_unseen() + count_unseen_by_sets() + count_unseen_by_plans() + count_unseen_by_templates();
     }
     printf("hostile: %lu passed, %lu failed\n", passed, failed);
     return failed != 0 || passed == 0;

@@ -1,4 +1,4 @@
-/* What damaged files, values, damaged sets and damaged plans share. */
+/* What damaged files, values, damaged sets, damaged plans and damaged templates share. */
 #ifndef HOSTILE_H
 #define HOSTILE_H
 
@@ -131,5 +131,17 @@ void print_seen_by_plans(void);
 
 /* How many answers of the call on plans no case gave. */
 unsigned long count_unseen_by_plans(void);
+
+/* Templates: hostile_templates.c. */
+
+void make_areas_of_templates(void);
+
+/* Runs the template of a case; 1 if all is as it should be. */
+int run_template(void);
+
+void print_seen_by_templates(void);
+
+/* How many answers of the call on templates, and verdicts of filled rules, no case gave. */
+unsigned long count_unseen_by_templates(void);
 
 #endif

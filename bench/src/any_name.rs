@@ -112,7 +112,7 @@ fn print_beside_names(call: &str, table: &str, of: impl Fn(&str) -> Option<u64>)
     print_ratio(call, &what, None, of(TEN_NAMES), of(EACH_NAME));
 }
 
-fn print_ratio(call: &str, what: &str, most: Option<f64>, any: Option<u64>, other: Option<u64>) {
+pub fn print_ratio(call: &str, what: &str, most: Option<f64>, any: Option<u64>, other: Option<u64>) {
     let asked = most.map_or("report".into(), |most| format!("{most} times"));
     let Some((any, other)) = any.zip(other) else {
         println!("| {call} | {what} | | {asked} | | |  |");

@@ -6,6 +6,7 @@ use crate::cases::{
     ORDER_ON_ROOTS, THREE_ROWS,
 };
 use crate::instructions::{shown, Counts};
+use crate::templates;
 use crate::trial;
 
 /// A limit of the instructions of one case.
@@ -68,6 +69,7 @@ pub fn print(counts: &Counts, before: &Counts) {
     print_set_verdicts(counts, before);
     trial::print_asked(counts);
     any_name::print_asked(counts);
+    templates::print_asked(counts);
 }
 
 fn yes_or_no(met: bool) -> &'static str {

@@ -1,11 +1,13 @@
 //! The calls of the C interface, made on the library or on the Rust checker.
 
 use gabzeril_tests::answer::{Answer, Trial};
-use gabzeril_tests::generate::{Plan, Set};
+use gabzeril_tests::generate::{Filling, Plan, Set};
 use gabzeril_tests::{checker, ffi};
 
 /// The same functions of either side.
 pub struct Side {
+    check_rule: fn(&[u32]) -> Answer,
+    fill: fn(&Filling, &mut [u32]) -> Answer,
     check_table: fn(&[u32]) -> Answer,
     join: fn(&mut [u32], usize, &[u32]) -> Answer,
     read_rule: fn(&[u8], &mut [u32]) -> Answer,
@@ -23,6 +25,8 @@ pub struct Side {
 }
 
 pub const LIBRARY: Side = Side {
+    check_rule: ffi::check_rule,
+    fill: |filling, rule| ffi::fill(&filling.template, &filling.parameters, rule),
     check_table: ffi::check_table,
     join: ffi::join,
     read_rule: ffi::read_rule,
@@ -42,6 +46,8 @@ pub const LIBRARY: Side = Side {
 };
 
 pub const CHECKER: Side = Side {
+    check_rule: checker::check_rule,
+    fill: |filling, rule| checker::fill(&filling.template, &filling.parameters, rule),
     check_table: checker::check_table,
     join: checker::join,
     read_rule: checker::read_rule,
@@ -63,6 +69,12 @@ pub const CHECKER: Side = Side {
 /// One call with its inputs.
 #[derive(Clone)]
 pub enum Call {
+    CheckRule {
+        rule: Vec<u32>,
+    },
+    Fill {
+        filling: Filling,
+    },
     CheckTable {
         table: Vec<u32>,
     },
@@ -158,6 +170,8 @@ impl Call {
     pub fn make(&self, side: &Side, outputs: &mut Outputs) -> Answer {
         let Outputs { words, bytes } = outputs;
         match self {
+            Call::CheckRule { rule } => (side.check_rule)(rule),
+            Call::Fill { filling } => (side.fill)(filling, words),
             Call::CheckTable { table } => (side.check_table)(table),
             // Each call puts the second table behind the same first one.
             Call::Join { first, second } => (side.join)(words, first.len(), second),
@@ -195,6 +209,8 @@ impl Call {
 
     pub fn name(&self) -> String {
         match self {
+            Call::CheckRule { .. } => "check_rule".into(),
+            Call::Fill { .. } => "fill".into(),
             Call::CheckTable { .. } => "check_table".into(),
             Call::Join { .. } => "join".into(),
             Call::ReadRule { .. } => "read_rule".into(),

@@ -11,6 +11,7 @@ use crate::inputs::{
     rule_book, values_below_zero, values_of_nines, values_of_ten_digits, with_no_parent, with_wrong_depth,
     with_wrong_depths, A, B, C, ORDER,
 };
+use crate::templates;
 use crate::trial;
 
 pub struct Case {
@@ -117,6 +118,7 @@ pub fn all() -> Vec<Case> {
     written_numbers(&mut cases);
     signs(&mut cases);
     any_name::add_cases(&mut cases);
+    templates::add_cases(&mut cases);
     cases
 }
 

@@ -18,6 +18,7 @@ mod instructions;
 mod sent;
 mod sqlite;
 mod stack;
+mod templates;
 mod times;
 mod trial;
 

@@ -31,6 +31,7 @@ fn measure_all() -> Vec<(&'static str, usize)> {
     most.of_tables(&tables);
     most.of_rules(&tables);
     most.of_sets(&tables);
+    most.of_templates();
     most.calls
 }
 
@@ -78,6 +79,12 @@ impl Most {
                 }
                 self.note("report", |_, bytes| ffi::report(&rule_file, &pool_file, bytes));
             }
+        }
+    }
+
+    fn of_templates(&mut self) {
+        for filling in &largest::fillings() {
+            self.note("fill", |words, _| ffi::fill(&filling.template, &filling.parameters, words));
         }
     }
 

@@ -34,6 +34,9 @@ pub use sets::*;
 #[cfg(feature = "trial")]
 pub use trial::*;
 
+#[cfg(feature = "templates")]
+pub use templates::*;
+
 #[repr(C)]
 struct RawAnswer {
     number: u32,
@@ -355,5 +358,35 @@ mod trial {
                 verdicts_length,
             )
         }
+    }
+}
+
+#[cfg(feature = "templates")]
+mod templates {
+    use super::*;
+
+    extern "C" {
+        fn gabzeril_fill(
+            template_words: *const u32,
+            template_length: usize,
+            parameters: *const u32,
+            parameters_length: usize,
+            rule: *mut u32,
+            rule_length: usize,
+        ) -> RawAnswer;
+    }
+
+    pub fn fill(template: &[u32], parameters: &[u32], rule: &mut [u32]) -> Answer {
+        let length = rule.len();
+        answer(unsafe {
+            gabzeril_fill(
+                lent(template),
+                template.len(),
+                lent(parameters),
+                parameters.len(),
+                lent_mut(rule),
+                length,
+            )
+        })
     }
 }

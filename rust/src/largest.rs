@@ -2,9 +2,9 @@
 
 use crate::checker::{
     rows_of, words_of, Row, ADD, ANY_NAME, ENTRY_WORDS, LEAST_VALUE, MOST_ENTRIES, MOST_NAME, MOST_NESTED,
-    MOST_ROWS, MOST_RULES, REMOVE, SET, STEP_WORDS,
+    MOST_PARAMETERS, MOST_ROWS, MOST_RULES, REMOVE, SET, STEP_WORDS,
 };
-use crate::generate::Set;
+use crate::generate::{comparisons, Filling, Set};
 
 const COMMON: u32 = 1;
 /// The name of the rows at the end of a table.
@@ -50,6 +50,21 @@ pub fn sets() -> Vec<Set> {
     longest.retain(|rule| rule.len() == MOST_ENTRIES * ENTRY_WORDS);
     let of = |rules: Vec<Vec<u32>>| Set::of(&rules.into_iter().cycle().take(MOST_RULES).collect::<Vec<_>>());
     [rules, reversed, longest].map(of).to_vec()
+}
+
+/// The rules above, and that of the longest file, with all comparisons as blanks, and as many parameters as there may be
+/// for so many blanks.
+pub fn fillings() -> Vec<Filling> {
+    let with_blanks = |rule: Vec<u32>| {
+        let blanks = comparisons(&rule);
+        let count = blanks.len().min(MOST_PARAMETERS);
+        let mut template = rule;
+        for (place, number) in blanks.into_iter().zip((0..count as u32).cycle()) {
+            template[place * ENTRY_WORDS + 2..][..2].copy_from_slice(&[2, number]);
+        }
+        Filling { template, parameters: (0..count as u32).map(|number| LEAST_VALUE + number).collect() }
+    };
+    rules().into_iter().chain([longest_rule()]).map(with_blanks).collect()
 }
 
 /// One chain of 128 entries: nots, then as many quantifiers as may be, then a comparison.
@@ -283,7 +298,7 @@ pub fn longest_pool() -> Vec<u32> {
 mod tests {
     use super::*;
     use crate::answer::Answer;
-    use crate::checker::{check_rule, check_set, check_table, rows_after, verdict};
+    use crate::checker::{check_rule, check_set, check_table, fill, rows_after, verdict};
 
     #[test]
     fn all_are_accepted() {
@@ -299,6 +314,22 @@ mod tests {
         for table in tables().into_iter().chain([table_of_two(), table_of_ends(), longest_pool()]) {
             assert_eq!(check_table(&table), Answer::Done(MOST_ROWS));
         }
+    }
+
+    /// Some have as many entries, blanks and parameters as may be.
+    #[test]
+    fn parameters_fill_the_templates() {
+        let (mut longest, mut most) = (0, 0);
+        for Filling { template, parameters } in fillings() {
+            let answer = fill(&template, &parameters, &mut template.clone());
+            assert_eq!(answer, Answer::Done(template.len()));
+            longest += (template.len() == MOST_ENTRIES * ENTRY_WORDS) as u32;
+            most += (parameters.len() == MOST_PARAMETERS) as u32;
+        }
+        assert!(
+            longest >= 10 && most >= 5,
+            "{longest} of the longest, {most} with as many parameters as may be"
+        );
     }
 
     /// The table after these steps, or the number of the refusal of one.

@@ -18,7 +18,7 @@ const TWO_DEVICES: [u32; 12] = [1, 1, 0, 0, 1, 1, 2, 1, 0, 0, 1, 2];
 const RULE_OF_ROOTS: [u32; 8] = [6, 1, 0, 1, 7, 0, 1, 1];
 
 /// What the header has beside constants.
-const OTHER_NAMES: [&str; 33] = [
+const OTHER_NAMES: [&str; 34] = [
     "GABZERIL_H",
     "gabzeril_answer",
     "gabzeril_check_files",
@@ -27,6 +27,7 @@ const OTHER_NAMES: [&str; 33] = [
     "gabzeril_check_table",
     "gabzeril_device_rows",
     "gabzeril_entry_column",
+    "gabzeril_fill",
     "gabzeril_join",
     "gabzeril_kind",
     "gabzeril_marks",
@@ -145,6 +146,7 @@ fn limits() -> Vec<(String, u64)> {
         ("ROW_LIMIT", MOST_ROWS as u64),
         ("NESTING_LIMIT", MOST_NESTED as u64),
         ("SET_LIMIT", MOST_RULES as u64),
+        ("PARAMETER_LIMIT", MOST_PARAMETERS as u64),
         ("NAME_LIMIT", MOST_NAME.into()),
         ("ANY_NAME", ANY_NAME.into()),
         ("VALUE_LIMIT", MOST_VALUE.into()),
@@ -197,13 +199,14 @@ fn kind_name(kind: u32) -> &'static str {
     }
 }
 
-/// b of a quantifier over roots, and of a comparison that uses two variables or one.
+/// b of a quantifier over roots, and of a comparison that uses two variables or one, or is a blank.
 fn second_words() -> Vec<(String, u64)> {
     let least = |test: fn(u32) -> bool| (0..).find(|&b| test(b)).expect("a word").into();
     named([
         ("ROOTS", least(|b| under(b).is_none())),
         ("VARIABLE", least(|b| Entry::from_words([7, 0, b, 0]).variables().len() == 2)),
         ("CONSTANT", least(|b| Entry::from_words([7, 0, b, 0]).variables().len() == 1)),
+        ("PARAMETER", least(|b| fill(&[5, 1, 0, 1, 7, 0, b, 0], &[1], &mut [0; 8]).number() == 0)),
     ])
 }
 
@@ -261,6 +264,8 @@ fn refusals() -> Vec<(String, u64)> {
         ("REFUSED_PARENT", check_table(&[1, 2, 1, 1, 1, 1])),
         ("REFUSED_DEPTH", check_table(&[1, 1, 0, 1, 1, 1])),
         ("REFUSED_COUNTS", check_set(&RULE_OF_ROOTS, &[])),
+        ("REFUSED_BLANK", fill(&[6, 1, 0, 1, 7, 0, 2, 0], &[], &mut [])),
+        ("REFUSED_PARAMETERS", fill(&RULE_OF_ROOTS, &[1], &mut [])),
         ("REFUSED_STEP", try_step([0, 1, 1, 0, 0, 1, 1])),
         ("REFUSED_ABSENT", try_step([SET, 2, 1, 0, 0, 1, 1])),
         ("REFUSED_REMOVAL", try_step([REMOVE, 1, 1, 0, 0, 1, 1])),
@@ -336,7 +341,7 @@ fn every_refusal_has_one_name_and_one_text() {
     named.sort();
     let numbers: Vec<u64> = [0].into_iter().chain(refusal_numbers()).collect();
     assert_eq!(named, numbers);
-    assert!([15, 21, 22].iter().all(|number| !named.contains(number)));
+    assert!(!named.contains(&15));
     let texts = refusal_texts();
     assert_eq!(texts.len() as u64, numbers.last().expect("a number") + 1);
     // The numbers below the largest that are not used share one text, which no other has.
@@ -405,6 +410,8 @@ fn files_fit_their_buffers() {
             _ => [kind, variable, 1, LEAST_VALUE],
         };
         assert!(bytes(RULE, &words) <= bytes(RULE, &longest_entry()), "{words:?}");
+        // So the file of a template fits, too: the number of a parameter has no sign.
+        assert!(bytes(RULE, &[kind, variable, 2, u32::MAX]) <= bytes(RULE, &longest_entry()), "{kind}");
     }
     let numbers = numbers_of_header();
     for rule in largest::rules().into_iter().chain([largest::longest_rule()]) {

@@ -6,7 +6,8 @@
     feature = "parts",
     feature = "files_entry",
     feature = "sets",
-    feature = "trial"
+    feature = "trial",
+    feature = "templates"
 ))]
 use gabzeril_tests::{checker, ffi, largest};
 
@@ -177,4 +178,22 @@ fn try_on_a_small_stack(set: &gabzeril_tests::generate::Set, pool: &[u32], steps
     // What lies behind the working table may be any.
     let words = answer.rows * checker::ROW_WORDS;
     assert_eq!(table[..words], expected[..words], "{steps:?}");
+}
+
+/// Filled, with a number that has no parameter, and with one parameter more than may be or is used.
+#[cfg(feature = "templates")]
+#[test]
+fn fillings() {
+    for filling in largest::fillings() {
+        let (template, parameters) = (&filling.template, &filling.parameters);
+        let more = [&parameters[..], &[7]].concat();
+        for (parameters, number) in [(&parameters[..], 0), (&parameters[1..], 21), (&more, 22)] {
+            let mut expected = vec![7; template.len()];
+            let answer = checker::fill(template, parameters, &mut expected);
+            assert_eq!(answer.number(), number, "{filling:?}");
+            let mut rule = vec![7; template.len()];
+            let found = on_a_small_stack(|| ffi::fill(template, parameters, &mut rule));
+            assert_eq!((found, rule), (answer, expected), "{filling:?}");
+        }
+    }
 }

@@ -1,14 +1,14 @@
 -- The one search law: a loop that looks for the first number below n at which a test holds, its invariant, kept by each turn, and what
 -- it says at each way out; and what a search that has ended tells. Assumes nothing.
 use Prim.Native.Nat.{ℕ, zero, suc, _+_, _-_, _≤_, _<_}
-use mathlib.Core.Path.{_≡_, sym, ap, subst, _∙_}
+use mathlib.Core.Path.{_≡_, refl, sym, ap, subst, _∙_}
 use mathlib.Core.Logic.{⊎-elim}
 use mathlib.Core.Bool.{Bool, true, false, cond, true≢false}
 use native.Mathlib.Nat.{eq-or-lt-of-le}
 use native.Mathlib.Numerals.{add-one}
 use native.Mathlib.Omega.{arith}
 use lib.Dec.{ltb}
-use borrow.Author.Tests.{lt-ltb, ltb-true, ltb-false}
+use borrow.Author.Tests.{lt-ltb, le-ltb, ltb-true, ltb-false}
 use Rattle.base.specs.Search.{firstFrom, first, some}
 use Rattle.base.proofs.Bools.{either}
 
@@ -119,3 +119,24 @@ some-none p n h = either (ltb (first p n) n)
 -- where the search finds nothing, the test fails everywhere
 pub none-at : (p : ℕ → Bool) (n i : ℕ) → some p n ≡ false → i < n → p i ≡ false
 none-at p n i e l = none-before p n i (omega (arith, ltb-false (first p n) n e))
+
+-- a search that answers whether the test holds anywhere
+pub found : (p : ℕ → Bool) (n i : ℕ) → i < n → p i ≡ true → true ≡ some p n
+found p n i h e = sym (some-at p n i h e)
+
+pub found-none : (p : ℕ → Bool) (n i : ℕ) → Passed p n i → n ≤ i → false ≡ some p n
+found-none p n i s h = sym (le-ltb (first p n) n (let e : n ≡ first p n = none p n i s h in omega arith))
+
+-- two tests that agree below n have the same first number there
+from-same : (p q : ℕ → Bool) (i n : ℕ) → ((j : ℕ) → i ≤ j → j < i + n → p j ≡ q j) → firstFrom p i n ≡ firstFrom q i n
+unfolding firstFrom
+from-same p q i zero h = refl
+from-same p q i (suc n) h =
+    ap (λ (b : Bool). cond b i (firstFrom p (suc i) n)) (h i (omega arith) (omega arith))
+    ∙ ap (cond (q i) i) (from-same p q (suc i) n (λ j k l. h j (omega arith) (omega arith)))
+
+pub first-same : (p q : ℕ → Bool) (n : ℕ) → ((j : ℕ) → j < n → p j ≡ q j) → first p n ≡ first q n
+first-same p q n h = from-same p q 0 n (λ j k l. h j (omega arith))
+
+pub some-same : (p q : ℕ → Bool) (n : ℕ) → ((j : ℕ) → j < n → p j ≡ q j) → some p n ≡ some q n
+some-same p q n h = ap (λ (m : ℕ). ltb m n) (first-same p q n h)

@@ -1,6 +1,6 @@
 -- A loop that sums a function over the numbers below n: its invariant, kept by each turn. Assumes nothing.
 use Prim.Native.Nat.{ℕ, zero, suc, _+_, _*_, _≤_, _<_}
-use mathlib.Core.Path.{_≡_, refl, ap, _∙_}
+use mathlib.Core.Path.{_≡_, refl, ap, ap₂, _∙_}
 use native.Mathlib.Nat.{mul-add}
 use native.Mathlib.Numerals.{add-one}
 use native.Mathlib.Omega.{arith}
@@ -16,6 +16,12 @@ sum-grows f i zero h = let e : i ≡ 0 = omega arith in rw e (omega arith)
 sum-grows f i (suc n) h = either (eqb i (suc n))
     (λ e. rw (eqb-true i (suc n) e) (omega arith))
     (λ e. let apart : ¬ (i ≡ suc n) = eqb-false i (suc n) e in let shorter = sum-grows f i n (omega arith) in omega arith)
+
+-- functions that agree below n have the same sum there
+pub sum-same : (f g : ℕ → ℕ) (n : ℕ) → ((j : ℕ) → j < n → f j ≡ g j) → sumBelow f n ≡ sumBelow g n
+unfolding sumBelow
+sum-same f g zero h = refl
+sum-same f g (suc n) h = ap₂ _+_ (sum-same f g n (λ j l. h j (omega arith))) (h n (omega arith))
 
 -- the numbers below i are summed, each at most `most`
 pub record Summed (f : ℕ → ℕ) (most n i sum : ℕ) : Type 0 where

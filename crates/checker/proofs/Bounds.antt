@@ -6,13 +6,13 @@ use native.Mathlib.Omega.{arith}
 use lib.ListN.{length}
 use Rattle.base.proofs.Bools.{either}
 use Rattle.tables.specs.Words.{entryWords, rowWords}
-use Rattle.tables.specs.Rules.{entryLimit, ruleLength, checkRule}
+use Rattle.tables.specs.Rules.{entryLimit, ruleLength, checkEntries, checkRule}
 use Rattle.tables.specs.Tables.{rowLimit, tableLength, checkTable}
 use Rattle.tables.specs.declared.Answer.the-variants.{Refused}
 use Rattle.tables.proofs.Whole.{whole-lines, rule-whole, rule-few, table-whole, table-few}
 
 pub rule-over : (ws : List ℕ) → entryLimit * entryWords < length ws → checkRule ws ≡ Refused 1 0
-unfolding checkRule
+unfolding checkEntries
 rule-over ws h = either (ruleLength ws) (λ e. absurd (omega (arith, rule-few ws e, whole-lines entryWords ws (rule-whole ws e)))) (λ e. rw e)
 
 pub table-over : (ws : List ℕ) → rowLimit * rowWords < length ws → checkTable ws ≡ Refused 8 0

@@ -13,7 +13,7 @@ use Rattle.base.proofs.Bools.{and-left, and-right}
 use Rattle.base.proofs.Search.{first-le}
 use Rattle.tables.specs.Answers.{number, place, andThen, unless, inOrder}
 use Rattle.tables.specs.Words.{entryCount, rowCount, rows}
-use Rattle.tables.specs.Rules.{one, ruleLength, entryFault, ruleChecks, checkRule}
+use Rattle.tables.specs.Rules.{one, toConstant, ruleLength, entryFault, ruleChecks, checkEntries, checkRule}
 use Rattle.tables.specs.Tables.{rowLimit, tableLength, rowFault, tableChecks, checkTable}
 use Rattle.tables.specs.Files.{Format, ruleNames, ruleFormat, poolNames, poolFormat, stepOf, scanAll, atStart, startsWith, atLine}
 use Rattle.tables.specs.Files.{atEnd, lines, readWords, checkFile}
@@ -53,11 +53,11 @@ small-order fault n (k ∷ ks) e = go (some (fault k) n) (small-order fault n ks
     go false s = s
 
 small-rule : (r : List ℕ) → Small rowLimit (checkRule r)
-unfolding checkRule
+unfolding checkEntries
 small-rule r = small-unless rowLimit (ruleLength r) 1 _ (omega arith)
     (λ e. small-wider (entryCount r) rowLimit _
     (omega (arith, rule-few r e))
-    (small-order (entryFault r) (entryCount r) ruleChecks refl))
+    (small-order (entryFault toConstant r) (entryCount r) ruleChecks refl))
 
 small-table : (t : List ℕ) → Small rowLimit (checkTable t)
 unfolding checkTable

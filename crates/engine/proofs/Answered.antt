@@ -11,7 +11,7 @@ use lib.Dec.{leb}
 use borrow.Author.Tests.{le-leb, lt-leb}
 use Rattle.tables.specs.Answers.{isDone, andThen, unless, fitting, output}
 use Rattle.tables.specs.Words.{rowCount, rows}
-use Rattle.tables.specs.Rules.{one, aroundFrom, checkRule, acceptedRule}
+use Rattle.tables.specs.Rules.{one, toConstant, aroundFrom, checkRule, acceptedRule}
 use Rattle.tables.specs.Tables.{checkTable, acceptedTable}
 use Rattle.tables.specs.declared.Answer.{Answer}
 use Rattle.tables.specs.declared.Answer.the-variants.{Done, Refused}
@@ -60,7 +60,7 @@ module _ (rule pool : List ℕ) (rule-ok : acceptedRule rule ≡ true) (pool-ok 
   start-ready = rw b-is (record {
     rule-accepted = rule-ok;
     pool-accepted = pool-ok;
-    inside = some-entry rule rule-ok;
+    inside = some-entry toConstant rule rule-ok;
     depth-is = refl;
     placed = placed-fresh pool;
   })

@@ -5,7 +5,7 @@ use mathlib.Core.Bool.{true}
 use mathlib.Core.List.{List}
 use native.Mathlib.Omega.{arith}
 use Rattle.tables.specs.Words.{entryAt, entryCount}
-use Rattle.tables.specs.Rules.{nestingLimit, around, acceptedRule}
+use Rattle.tables.specs.Rules.{nestingLimit, toConstant, around, acceptedRule}
 use Rattle.tables.specs.declared.Entry.{Entry}
 use Rattle.tables.proofs.AcceptedRule as entries
 use Rattle.logic.specs.Formulas.{Formula, negation, joined, quantified, compared, overOf, operandOf, build, formulaAt}
@@ -13,7 +13,7 @@ use Rattle.logic.proofs.Formulas.{formula-at}
 use Rattle.engine.specs.Ready.{connectiveOf, quantifierOf, comparisonOf}
 
 pub record Opened (rule : List ℕ) (e : ℕ) (x : Entry) : Type 0 where
-  pub formula-is : formulaAt rule e ≡ build x (formulaAt rule)
+  pub formula-is : formulaAt rule e ≡ build operandOf x (formulaAt rule)
   pub kind-range : (1 ≤ x .kind) × (x .kind ≤ 9)
   pub child : x .kind ≤ 6 → (e < x .a) × (x .a < entryCount rule)
   pub child-depth : x .kind ≤ 4 → around rule (x .a) ≡ around rule e
@@ -29,33 +29,33 @@ pub opened : (rule : List ℕ) → acceptedRule rule ≡ true → (e : ℕ) → 
 opened rule ok e h x x-is =
     subst (Opened rule e) (sym x-is)
     (record {
-      formula-is = formula-at rule ok e h;
-      kind-range = entries.kind-range rule ok e h;
-      child = entries.child-later rule ok e h;
-      child-depth = entries.child-depth rule ok e h;
-      right = entries.right-later rule ok e h;
-      right-depth = entries.right-depth rule ok e h;
-      body-depth = entries.body-depth rule ok e h;
-      nesting = entries.nesting rule ok e h;
-      over-bound = entries.over-bound rule ok e h;
-      left-bound = entries.left-bound rule ok e h;
-      right-bound = entries.right-bound rule ok e h;
+      formula-is = formula-at operandOf toConstant rule ok e h;
+      kind-range = entries.kind-range toConstant rule ok e h;
+      child = entries.child-later toConstant rule ok e h;
+      child-depth = entries.child-depth toConstant rule ok e h;
+      right = entries.right-later toConstant rule ok e h;
+      right-depth = entries.right-depth toConstant rule ok e h;
+      body-depth = entries.body-depth toConstant rule ok e h;
+      nesting = entries.nesting toConstant rule ok e h;
+      over-bound = entries.over-bound toConstant rule ok e h;
+      left-bound = entries.left-bound toConstant rule ok e h;
+      right-bound = entries.right-bound toConstant rule ok e h;
     })
 
 -- ---- the formula by the entry's kind
 module _ (a b c : ℕ) (f : ℕ → Formula) where
-  connective : (k : ℕ) → k ≤ 2 → build (record { kind = 2 + k; a = a; b = b; c = c }) f ≡ joined (connectiveOf (2 + k)) (f a) (f b)
+  connective : (k : ℕ) → k ≤ 2 → build operandOf (record { kind = 2 + k; a = a; b = b; c = c }) f ≡ joined (connectiveOf (2 + k)) (f a) (f b)
   connective zero h = refl
   connective (suc zero) h = refl
   connective (suc (suc zero)) h = refl
   connective (suc (suc (suc k))) h = absurd (omega arith)
 
-  quantifier : (k : ℕ) → k ≤ 1 → build (record { kind = 5 + k; a = a; b = b; c = c }) f ≡ quantified (quantifierOf (5 + k)) (overOf b) c (f a)
+  quantifier : (k : ℕ) → k ≤ 1 → build operandOf (record { kind = 5 + k; a = a; b = b; c = c }) f ≡ quantified (quantifierOf (5 + k)) (overOf b) c (f a)
   quantifier zero h = refl
   quantifier (suc zero) h = refl
   quantifier (suc (suc k)) h = absurd (omega arith)
 
-  comparison : (k : ℕ) → k ≤ 2 → build (record { kind = 7 + k; a = a; b = b; c = c }) f ≡ compared (comparisonOf (7 + k)) a (operandOf b c)
+  comparison : (k : ℕ) → k ≤ 2 → build operandOf (record { kind = 7 + k; a = a; b = b; c = c }) f ≡ compared (comparisonOf (7 + k)) a (operandOf b c)
   comparison zero h = refl
   comparison (suc zero) h = refl
   comparison (suc (suc zero)) h = refl
@@ -64,7 +64,7 @@ module _ (a b c : ℕ) (f : ℕ → Formula) where
 module _ (rule : List ℕ) (e : ℕ) (x : Entry) (o : Opened rule e x) where
   -- the entry with another kind
   with-kind : ℕ → Formula
-  with-kind k = build (record { kind = k; a = x .a; b = x .b; c = x .c }) (formulaAt rule)
+  with-kind k = build operandOf (record { kind = k; a = x .a; b = x .b; c = x .c }) (formulaAt rule)
 
   pub not-formula : x .kind ≡ 1 → formulaAt rule e ≡ negation (formulaAt rule (x .a))
   unfolding with-kind

@@ -7,6 +7,7 @@ ghost use Rattle.tables.specs.Rules.{checkRule};
 ghost use Rattle.tables.specs.Tables.{checkTable};
 ghost use Rattle.tables.specs.Joining.{joinAnswer, joinPool};
 ghost use Rattle.sets.specs.Sets.{checkSet};
+ghost use Rattle.templates.specs.Templates.{fillAnswer, fillOut};
 ghost use Rattle.tables.specs.Files.{readRule, readRuleOut, readPool, readPoolOut, writeRule, writeRuleOut, writePool, writePoolOut};
 ghost use Rattle.logic.specs.Verdict.{verdictAnswer, setVerdictsAnswer, setVerdictsOut};
 ghost use Rattle.logic.specs.Marks.{marksAnswer, marksOut};
@@ -51,6 +52,14 @@ pub extern "C" fn gabzeril_check_rule(rule: &[u32]) -> CAnswer
     ensures { λ r. ⌜ r ≡ answered (checkRule (now (rule .entry))) ⌝ }
 {
     c_answer(tables::check_rule(rule))
+}
+
+#[no_mangle]
+pub extern "C" fn gabzeril_fill(template: &[u32], parameters: &[u32], rule: &mut [u32]) -> CAnswer
+    ensures answer { λ r. ⌜ r ≡ answered (fillAnswer (now (template .entry)) (now (parameters .entry)) (length (now (rule .entry)))) ⌝ }
+    ensures words { λ r. ⌜ now (rule .exit) ≡ fillOut (now (template .entry)) (now (parameters .entry)) (now (rule .entry)) ⌝ }
+{
+    c_answer(templates::fill(template, parameters, rule))
 }
 
 #[no_mangle]

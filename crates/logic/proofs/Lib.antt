@@ -29,3 +29,4 @@ pub mod Kept
 pub mod Runs
 pub mod Trials
 pub mod Removals
+pub mod Templates

@@ -49,9 +49,9 @@ operandOf (suc b) x = constant x
 abbrev pub noFormula : Formula
 noFormula = compared equal 0 (variable 0)
 
--- an entry, over the formulas of its children: one line for each kind
-abbrev pub build : Entry → (ℕ → Formula) → Formula
-build e child =
+-- an entry, over the formulas of its children, where `operand` reads b and c of a comparison: one line for each kind
+abbrev pub build : (ℕ → ℕ → Operand) → Entry → (ℕ → Formula) → Formula
+build operand e child =
     getD
     (noFormula
     ∷ negation (child (e .a))
@@ -60,21 +60,25 @@ build e child =
     ∷ joined implies (child (e .a)) (child (e .b))
     ∷ quantified every (overOf (e .b)) (e .c) (child (e .a))
     ∷ quantified some (overOf (e .b)) (e .c) (child (e .a))
-    ∷ compared equal (e .a) (operandOf (e .b) (e .c))
-    ∷ compared less (e .a) (operandOf (e .b) (e .c))
-    ∷ compared atMost (e .a) (operandOf (e .b) (e .c))
+    ∷ compared equal (e .a) (operand (e .b) (e .c))
+    ∷ compared less (e .a) (operand (e .b) (e .c))
+    ∷ compared atMost (e .a) (operand (e .b) (e .c))
     ∷ []) (e .kind) noFormula
 
 -- the formulas of n entries from number i on: a child's number exceeds its parent's
-unfoldable pub formulas : List ℕ → ℕ → ℕ → List Formula
-formulas r i zero = []
-formulas r i (suc n) =
-    let later = formulas r (suc i) n in
-    build (entryAt r i) (λ k. getD later (k - suc i) noFormula) ∷ later
+unfoldable pub formulas : (ℕ → ℕ → Operand) → List ℕ → ℕ → ℕ → List Formula
+formulas operand r i zero = []
+formulas operand r i (suc n) =
+    let later = formulas operand r (suc i) n in
+    build operand (entryAt r i) (λ k. getD later (k - suc i) noFormula) ∷ later
 
--- the formula of entry k
-unfoldable pub formulaAt : List ℕ → ℕ → Formula
-formulaAt r k = getD (formulas r 0 (entryCount r)) k noFormula
+-- the formula of entry k, where comparisons are read so
+unfoldable pub formulaBy : (ℕ → ℕ → Operand) → List ℕ → ℕ → Formula
+formulaBy operand r k = getD (formulas operand r 0 (entryCount r)) k noFormula
+
+-- of a rule
+abbrev pub formulaAt : List ℕ → ℕ → Formula
+formulaAt = formulaBy operandOf
 
 -- entry 0 is the whole rule
 abbrev pub formula : List ℕ → Formula

@@ -10,3 +10,4 @@ pub mod Unmarked
 pub mod Depth
 pub mod Sets
 pub mod Trial
+pub mod Templates

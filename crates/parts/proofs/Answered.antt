@@ -11,7 +11,7 @@ use borrow.Author.Tests.{eq-eqb, ne-eqb, eqb-true, lt-ltb, le-ltb, le-leb, lt-le
 use Rattle.base.specs.Search.{first, some, sumBelow}
 use Rattle.tables.specs.Answers.{isDone, andThen, unless, unlessAny}
 use Rattle.tables.specs.Words.{rowWords, rowAt, rowCount, rows, entryWords}
-use Rattle.tables.specs.Rules.{checkRule, acceptedRule}
+use Rattle.tables.specs.Rules.{toConstant, checkRule, acceptedRule}
 use Rattle.tables.specs.Tables.{checkTable}
 use Rattle.tables.specs.declared.Row.{Row}
 use Rattle.tables.specs.declared.Answer.{Answer}
@@ -213,7 +213,7 @@ module _ (rule : List ℕ) {n : ℕ} (n-is : OwnCount rule n) where
   Fs = formulasOf rule (n ∷ [])
 
   own : acceptedRule rule ≡ true → OfOne rule
-  own ok = set-of-one rule (eq-eqb (length rule % entryWords) 0 (omega (arith, whole-entries rule ok)))
+  own ok = set-of-one rule (eq-eqb (length rule % entryWords) 0 (omega (arith, whole-entries toConstant rule ok)))
 
   pub one-vouched : {a : Answer} → a ≡ checkRule rule → Vouched a rule (n ∷ [])
   one-vouched a-is d =

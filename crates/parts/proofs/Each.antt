@@ -8,7 +8,7 @@ use lib.ListN.{length}
 use lib.Dec.{eqb}
 use Rattle.base.specs.Lists.{all, any}
 use Rattle.tables.specs.Words.{rowAt, rows}
-use Rattle.tables.specs.Rules.{aroundFrom, acceptedRule}
+use Rattle.tables.specs.Rules.{toConstant, aroundFrom, acceptedRule}
 use Rattle.tables.specs.declared.Row.{Row}
 use Rattle.tables.proofs.AcceptedRule.{some-entry}
 use Rattle.sets.specs.Sets.{entriesOf, ruleAt, rulesFrom}
@@ -74,7 +74,7 @@ module _ (rules counts t parents : List ℕ) (m row : ℕ) where
         has-parents = ready .has-parents;
         sized = refl;
         binders = record { inside = λ v l. absurd (omega arith); over = λ v l. absurd (omega arith) };
-        inside = some-entry rule rule-ok;
+        inside = some-entry toConstant rule rule-ok;
         depth-is = refl;
         row-inside = ready .row-inside;
       })

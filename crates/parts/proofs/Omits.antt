@@ -13,7 +13,7 @@ use lib.Dec.{eqb}
 use borrow.Author.Tests.{eq-eqb, ne-eqb}
 use Rattle.base.specs.Lists.{when, all, any}
 use Rattle.tables.specs.Words.{rowAt, rows, entryAt, entryCount}
-use Rattle.tables.specs.Rules.{entryLimit, nestingLimit, around}
+use Rattle.tables.specs.Rules.{entryLimit, nestingLimit, toConstant, around}
 use Rattle.tables.specs.declared.Row.{Row}
 use Rattle.tables.specs.declared.Entry.{Entry}
 use Rattle.tables.proofs.AcceptedRule.{few-entries}
@@ -167,7 +167,7 @@ module _ {rule t parents : List ℕ} {by : Binders} {e i : ℕ} (ready : ReadyOm
     room = omega (arith, opens .nesting high low, ready .depth-is)
 
     pub with-room : (by .depth < nestingLimit) × (e < entryLimit)
-    with-room = (room, omega (arith, ready .inside, few-entries rule (ready .rule-accepted)))
+    with-room = (room, omega (arith, ready .inside, few-entries toConstant rule (ready .rule-accepted)))
 
     body-later : (e < x .a) × (x .a < entryCount rule)
     body-later = opens .child low

@@ -12,6 +12,7 @@ use borrow.Author.Tests.{eq-eqb, ne-eqb}
 use Rattle.base.specs.Lists.{put, select, when, all}
 use Rattle.base.specs.Search.{sumBelow}
 use Rattle.base.proofs.Lists.{concatMap-append, select-all}
+use Rattle.base.proofs.Sums.{sum-same}
 use Rattle.tables.specs.Words.{rowWords, rowAt, rowCount, rowsFrom, rows}
 use Rattle.tables.specs.Rules.{one}
 use Rattle.tables.specs.declared.Row.{Row}
@@ -26,11 +27,6 @@ use Rattle.parts.specs.Keeping.{stays, Keeps}
 pub sum-more : (f : ℕ → ℕ) (i n : ℕ) → n ≡ sumBelow f i → n + f i ≡ sumBelow f (i + 1)
 unfolding sumBelow
 sum-more f i n e = ap (λ (k : ℕ). k + f i) e ∙ ap (sumBelow f) (sym (add-one i))
-
-sum-same : (f g : ℕ → ℕ) (n : ℕ) → ((j : ℕ) → j < n → f j ≡ g j) → sumBelow f n ≡ sumBelow g n
-unfolding sumBelow
-sum-same f g zero h = refl
-sum-same f g (suc n) h = ap₂ _+_ (sum-same f g n (λ j l. h j (omega arith))) (h n (omega arith))
 
 sum-length : (P : Row → Bool) (t : List ℕ) (n : ℕ) → sumBelow (λ j. one (P (rowAt t j))) n ≡ length (select P (rowsFrom t 0 n))
 unfolding sumBelow rowsFrom

@@ -3,13 +3,10 @@ use Prim.Native.Nat.{ℕ, _≤_, _<_}
 use mathlib.Core.Path.{_≡_, sym, ap, _∙_}
 use mathlib.Core.Bool.{Bool, true, false, not, _&&_, _||_}
 use mathlib.Core.List.{List}
-use native.Mathlib.Omega.{arith}
 use lib.ListN.{length}
 use lib.Dec.{eqb, ltb, leb}
 use borrow.Author.Tests.{lt-ltb, le-ltb, le-leb, lt-leb, leb-true, not-true, not-false}
-use Rattle.base.specs.Search.{some, first}
 use Rattle.base.proofs.Bools.{and-left}
-use Rattle.base.proofs.Search.{Passed, none, some-at}
 use Rattle.tables.specs.Answers.{unless}
 use Rattle.tables.specs.Words.{rowAt, rowCount}
 use Rattle.tables.specs.Tables.{sameRow, isAbove, isParent}
@@ -24,12 +21,6 @@ above-here r p-is b-is e = ap (λ (y : Row). not (isAbove r y)) (sym p-is) ∙ a
 
 pub under-here : (r : Row) {p q : Row} {b x : Bool} → p ≡ q → b ≡ isParent p r → b ≡ x → isParent q r ≡ x
 under-here r p-is b-is e = ap (λ (y : Row). isParent y r) (sym p-is) ∙ sym b-is ∙ e
-
-pub under-found : (p : ℕ → Bool) (n i : ℕ) → i < n → p i ≡ true → true ≡ some p n
-under-found p n i h e = sym (some-at p n i h e)
-
-pub under-none : (p : ℕ → Bool) (n i : ℕ) → Passed p n i → n ≤ i → false ≡ some p n
-under-none p n i s h = sym (le-ltb (first p n) n (let e : n ≡ first p n = none p n i s h in omega arith))
 
 -- ---- 23
 pub lacking : (s : List ℕ) → length s < stepWords → false ≡ isStep s

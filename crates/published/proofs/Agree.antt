@@ -10,7 +10,7 @@ use borrow.Author.Tests.{eqb-true, eqb-false, eq-eqb, ltb-true, le-leb}
 use Rattle.base.specs.Lists.{_∈_, select, all, any}
 use Rattle.base.proofs.Bools.{and-left, and-right, and-both, or-second}
 use Rattle.base.proofs.Lists.{select-out, select-both, select-all, select-map}
-use Rattle.tables.specs.Answers.{andThen, fitting, output}
+use Rattle.tables.specs.Answers.{isDone, andThen, fitting, output}
 use Rattle.tables.specs.Words.{rows}
 use Rattle.tables.specs.Rules.{one, anyName, checkRule, acceptedRule}
 use Rattle.tables.specs.Tables.{root, checkTable, acceptedTable}
@@ -21,16 +21,19 @@ use Rattle.tables.proofs.Answers.{andThen-passed, unless-passed}
 use Rattle.tables.proofs.Accepted.{parent-device, parent-at}
 use Rattle.sets.specs.Sets.{rulesOf, acceptedSet}
 use Rattle.sets.proofs.Sets.{rule-accepted}
+use Rattle.templates.specs.Templates.{written}
+use Rattle.templates.proofs.Ordinary.{fills-to-rules}
 use Rattle.logic.specs.Formulas.{Formula, negation, joined, quantified, compared, Connective, and, or, implies, Quantifier, every, some, Comparison, equal, less, atMost, Over, roots, under, Operand, variable, constant, formula, formulasOf}
 use Rattle.logic.specs.Verdict.{connect, compare, Place, bound, Bindings, noneBound, bind, named, hangs, ranges, settled, both, fold}
 use Rattle.logic.specs.Verdict.{valueAt, valueOf, holds, verdict, verdictAnswer, verdictBytes, setVerdictsAnswer, setVerdictsOut}
 use Rattle.logic.specs.Trial.{trialOutcome, stateAt, bytesOf}
 use Rattle.logic.proofs.Names.{any-name, own-name}
 use Rattle.logic.proofs.Calls.{verdict-count, verdicts-are, bytes-are}
+use Rattle.logic.proofs.Templates.{written-formula}
 use Rattle.logic.proofs.Trials.{begun-set, trials}
 use Rattle.published.specs.Published.{Tree, CL, Pair, Path, _is_, pairs, v, _⊨_}
 use Rattle.published.specs.Stated.{Standing, Standings, noStanding, stand, pathTo, term, connective, overNamed, overAny, quantifier, comparison}
-use Rattle.published.specs.Stated.{stated, treeOf, tree, published, Agreed, Answered, SetAnswered, TrialAnswered}
+use Rattle.published.specs.Stated.{stated, treeOf, tree, truthOf, published, Agreed, Answered, TemplateAnswered, SetAnswered, TrialAnswered}
 use Rattle.published.proofs.Rows.{Fit, fit}
 use Rattle.published.proofs.Table.{v-is}
 use Rattle.published.proofs.Descent.{child, pairOf, at-top, Siblings, step}
@@ -201,7 +204,7 @@ module _ (T : List Row) (f : Fit T) where
       ∙ ap₂ (compare c) (sym (value-is (g x (ltb-true x d (and-left _ (operandBound y d) s))))) (sym (term-is y d e b (and-right (ltb x d) _ s) g))
 
 pub agreed : Agreed
-unfolding published verdict
+unfolding truthOf verdict
 agreed rule pool r t = agree (rows pool) (fit pool t) (formula rule) 0 noStanding noneBound (rule-scoped rule r) (λ x l. absurd (omega arith))
 
 pub answered : Answered
@@ -210,6 +213,11 @@ answered rule pool r t =
     andThen-passed (checkRule rule) (andThen (checkTable pool) (Done (one (verdict (formula rule) (rows pool))))) r
     ∙ andThen-passed (checkTable pool) (Done (one (verdict (formula rule) (rows pool)))) t
     ∙ ap (λ (b : Bool). Done (one b)) (sym (agreed rule pool r t))
+
+pub template-answered : TemplateAnswered
+template-answered template parameters out pool ok t =
+    answered (written template parameters out) pool (ap isDone (fills-to-rules template parameters out ok .accepted)) t
+    ∙ ap (λ (F : Formula). Done (one (truthOf F pool))) (written-formula template parameters out ok)
 
 -- a set's bytes, rule by rule
 module _ (rules counts pool : List ℕ) (s : acceptedSet rules counts ≡ true) (t : acceptedTable pool ≡ true) where

@@ -9,7 +9,7 @@ use lib.Dec.{ltb}
 use borrow.Author.Tests.{lt-ltb}
 use Rattle.base.proofs.Bools.{and-both}
 use Rattle.tables.specs.Words.{entryAt, entryCount}
-use Rattle.tables.specs.Rules.{acceptedRule, aroundFrom, around}
+use Rattle.tables.specs.Rules.{toConstant, aroundFrom, around, acceptedRule}
 use Rattle.tables.proofs.AcceptedRule.{kind-range, some-entry, child-later, child-depth, right-later, right-depth, body-depth, over-bound, left-bound, right-bound}
 use Rattle.logic.specs.Formulas.{Formula, negation, joined, quantified, compared, Over, roots, under, Operand, variable, constant, overOf, operandOf, build, formulaAt, formula}
 use Rattle.logic.proofs.Formulas.{formula-at}
@@ -55,7 +55,7 @@ module _ (a b c d : ℕ) (f : ℕ → Formula) where
     first : 7 ≤ kind → a < d
     second : 7 ≤ kind → b ≡ 0 → c < d
 
-  build-scoped : (kind : ℕ) → Bound kind → scoped (build (record { kind = kind; a = a; b = b; c = c }) f) d ≡ true
+  build-scoped : (kind : ℕ) → Bound kind → scoped (build operandOf (record { kind = kind; a = a; b = b; c = c }) f) d ≡ true
   unfolding scoped
   build-scoped zero h = absurd (omega (arith, h .known .0))
   build-scoped (suc zero) h = h .left (omega arith)
@@ -75,16 +75,16 @@ module _ (r : List ℕ) (ok : acceptedRule r ≡ true) where
   entry-scoped : (i : ℕ) → i < entryCount r → ((j d : ℕ) → (i < j) × (j < entryCount r) → around r j ≡ d → scoped (formulaAt r j) d ≡ true)
       → scoped (formulaAt r i) (around r i) ≡ true
   entry-scoped i h later =
-      ap (λ (φ : Formula). scoped φ (around r i)) (formula-at r ok i h)
+      ap (λ (φ : Formula). scoped φ (around r i)) (formula-at operandOf toConstant r ok i h)
       ∙ build-scoped (entryAt r i .a) (entryAt r i .b) (entryAt r i .c) (around r i) (formulaAt r) (entryAt r i .kind)
       (record {
-        known = kind-range r ok i h;
-        left = λ k. later (entryAt r i .a) (around r i) (child-later r ok i h (omega arith)) (child-depth r ok i h k);
-        right = λ j k. later (entryAt r i .b) (around r i) (right-later r ok i h j k) (right-depth r ok i h j k);
-        over = λ j k. over-bound r ok i h j k;
-        body = λ j k. later (entryAt r i .a) (suc (around r i)) (child-later r ok i h k) (body-depth r ok i h j k ∙ add-one (around r i));
-        first = λ j. left-bound r ok i h j;
-        second = λ j e. right-bound r ok i h j e;
+        known = kind-range toConstant r ok i h;
+        left = λ k. later (entryAt r i .a) (around r i) (child-later toConstant r ok i h (omega arith)) (child-depth toConstant r ok i h k);
+        right = λ j k. later (entryAt r i .b) (around r i) (right-later toConstant r ok i h j k) (right-depth toConstant r ok i h j k);
+        over = λ j k. over-bound toConstant r ok i h j k;
+        body = λ j k. later (entryAt r i .a) (suc (around r i)) (child-later toConstant r ok i h k) (body-depth toConstant r ok i h j k ∙ add-one (around r i));
+        first = λ j. left-bound toConstant r ok i h j;
+        second = λ j e. right-bound toConstant r ok i h j e;
       })
 
   scoped-from : (m i : ℕ) → i < entryCount r → entryCount r ≤ i + m → scoped (formulaAt r i) (around r i) ≡ true
@@ -93,4 +93,4 @@ module _ (r : List ℕ) (ok : acceptedRule r ≡ true) where
 
   pub rule-scoped : scoped (formula r) 0 ≡ true
   unfolding aroundFrom
-  rule-scoped = scoped-from (entryCount r) 0 (some-entry r ok) (omega arith)
+  rule-scoped = scoped-from (entryCount r) 0 (some-entry toConstant r ok) (omega arith)

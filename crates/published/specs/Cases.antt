@@ -1,6 +1,6 @@
 -- 01's worked pools (a) to (l), numbers of every width, values below zero, the reductions that lose a verdict, readings over roots,
--- quantifiers over any name, marks that are relied on, sets of rules, plans, and a table on which the published meaning is not that of
--- rows: the rows of one table, with one test over all of them, proved in proofs/Cases. Assumes nothing.
+-- quantifiers over any name, templates, marks that are relied on, sets of rules, plans, and a table on which the published meaning is not
+-- that of rows: the rows of one table, with one test over all of them, proved in proofs/Cases. Assumes nothing.
 use Prim.Native.Nat.{ℕ, _+_, _-_, _*_}
 use mathlib.Core.Path.{_≡_}
 use mathlib.Core.Bool.{Bool, true, false, not, cond, _&&_}
@@ -20,19 +20,21 @@ use Rattle.tables.specs.declared.Row.{Row}
 use Rattle.tables.specs.declared.Answer.{Answer}
 use Rattle.tables.specs.declared.Answer.the-variants.{Done, Refused}
 use Rattle.sets.specs.Sets.{rulesOf, checkSet}
+use Rattle.templates.specs.Templates.{fillAnswer, fillOut, written}
 use Rattle.plans.specs.declared.Trial.{Trial}
 use Rattle.logic.specs.Formulas.{formula}
 use Rattle.logic.specs.Verdict.{verdict, verdictAnswer, setVerdictsAnswer, setVerdictsOut}
 use Rattle.logic.specs.Marks.{marksAnswer, marksOut}
 use Rattle.logic.specs.Parts.{spare, partAnswer, partOut, setPartAnswer, setPartOut}
+use Rattle.logic.specs.Templates.{templateVerdict}
 use Rattle.logic.specs.Trial.{trialOutcome, returnedBy, appendedBy}
 use Rattle.published.specs.Inputs.{row, entry, D1, D2, D3, D4, ruleA, ruleB, nested, beside, everyIs, everyCompares, everyIsEither, someOrEvery}
 use Rattle.published.specs.Inputs.{everyEqualsSome, someAndSome, pulledToFront, everyHasOne, everyBelowHasOne, aThenB, ruleAddresses}
 use Rattle.published.specs.Inputs.{nothingZero, interfaceWith, someRootIs, everyChildHasOne, twoChildren, someEqualsBelow, router, someAbove}
+use Rattle.published.specs.Inputs.{everyIsBlank, house, belowSecond, eachBlank, eachConstant}
 use Rattle.published.specs.Inputs.{keepsRoots, rootsAndChild, setStep, addStep, removeStep, secondServer, tenTo, nines, textThen, line}
 use Rattle.published.specs.Inputs.{lineBelow, digit, limitWith, rowTo, entryTo, shortLine}
-use Rattle.published.specs.Published.{CL, NOT, OR, IMPLIES, SOME, EACH, EQUAL, SOMEPAIR, EACHPAIR, _is_}
-use Rattle.published.specs.Stated.{noStanding, stated, published}
+use Rattle.published.specs.Stated.{published, publishedTemplate}
 
 -- ---- what a case gives and expects
 -- a row by (device, at)
@@ -62,6 +64,11 @@ pub data Case : Type 0 where
   setSends : List ℕ → List ℕ → ℕ → List ℕ → List ℕ → Case
   -- rules, counts, pool, plan, words and bytes of room: number, place, steps done, working table, verdicts
   tries : List ℕ → List ℕ → List ℕ → List ℕ → ℕ → ℕ → ℕ → ℕ → ℕ → List ℕ → List ℕ → Case
+  -- template, parameters: the filled rule; template, parameters, words of room: the refusal
+  fills : List ℕ → List ℕ → List ℕ → Case
+  unfilled : List ℕ → List ℕ → ℕ → Answer → Case
+  -- template, parameters, pool: the template's verdict, its published truth and the filled rule's verdict
+  templateJudged : List ℕ → List ℕ → List ℕ → Bool → Case
   -- rule, a table that is not accepted: its refusal, the published truth, the verdict on rows
   differs : List ℕ → List ℕ → Answer → Bool → Bool → Case
 
@@ -154,6 +161,18 @@ right (tries rules counts pool steps words bytes number place done table verdict
     && sameWords (r .state .table) table
     && sameWords (appendedBy r (buffer bytes)) (verdicts ++ buffer (bytes - length verdicts))
     && sameWords (drop (length counts * (done - 1)) verdicts) (cond (eqb done 0) [] (map (λ rule. one (published rule table)) (rulesOf rules counts)))
+right (fills template parameters rule) =
+    sameAnswer (fillAnswer template parameters (length rule)) (Done (length rule))
+    && sameAnswer (fillAnswer template parameters (length rule - 1)) (Refused 17 0)
+    && sameWords (fillOut template parameters (buffer (length rule + 1))) (rule ++ buffer 1)
+    && isDone (checkRule rule)
+right (unfilled template parameters room answer) =
+    sameAnswer (fillAnswer template parameters room) answer
+    && sameWords (fillOut template parameters (buffer room)) (buffer room)
+right (templateJudged template parameters pool truth) =
+    sameBool (templateVerdict template parameters (rows pool)) truth
+    && sameBool (publishedTemplate template parameters pool) truth
+    && sameAnswer (verdictAnswer (written template parameters (buffer (length template))) pool) (Done (one truth))
 right (differs rule pool answer truth onRows) =
     acceptedRule rule && sameAnswer (checkTable pool) answer
     && sameBool (published rule pool) truth
@@ -331,6 +350,48 @@ cases =
     ∷ differs everyChildHasOne (twoChildren 1 1 1) (Refused 12 3) true false
     -- two roots are 2, and a b that is 1 hangs under the first: the second makes the rule true; by values it would be one root, with that b
     ∷ judged someEqualsBelow (row 2 2 0 0 2 2 ++ row 2 5 0 0 1 2 ++ row 2 8 2 1 2 1) true (key 2 5)
+    -- a template: b and c of the blanks become 1 and the parameter; b = 2 of the and is its child, b = 2 of a quantifier its parent's variable
+    ∷ fills (house 2 0 2 1) (7 ∷ opposite 24 ∷ []) (house 1 7 1 (opposite 24))
+    ∷ fills (house 2 1 2 0) (7 ∷ 9 ∷ []) (house 1 9 1 7)
+    ∷ fills (belowSecond 2 0) (4294967295 ∷ []) (belowSecond 1 4294967295)
+    ∷ fills (entry 5 1 0 1 ++ entry 8 0 2 0) (5 ∷ []) (everyCompares 8 5)
+    -- one parameter for both; a constant, here 0, and a variable stay
+    ∷ fills (house 2 0 2 0) (7 ∷ []) (house 1 7 1 7)
+    ∷ fills (house 1 0 2 0) (7 ∷ []) (house 1 0 1 7)
+    ∷ fills (house 0 1 2 0) (7 ∷ []) (house 0 1 1 7)
+    -- without blanks, and no parameters: itself
+    ∷ fills ruleA [] ruleA
+    -- its meaning, by reading the parameters directly
+    ∷ templateJudged (house 2 0 2 1) (2 ∷ 101 ∷ []) D1 true
+    ∷ templateJudged (house 2 0 2 1) (2 ∷ 100 ∷ []) D1 false
+    ∷ templateJudged (house 2 0 2 1) (1 ∷ 101 ∷ []) D1 false
+    ∷ templateJudged (house 2 1 2 0) (101 ∷ 2 ∷ []) D1 true
+    ∷ templateJudged (house 2 0 2 0) (opposite 1 ∷ []) (row 1 1 0 0 1 11 ++ row 1 2 1 1 3 (opposite 2)) true
+    ∷ templateJudged (house 2 0 2 0) (opposite 1 ∷ []) (row 1 1 0 0 1 11 ++ row 1 2 1 1 3 5) false
+    -- 3 allows b = 2 in templates only, whatever c is, and no other b above 1
+    ∷ ruleChecked (everyIsBlank 0) (Refused 3 1)
+    ∷ unfilled (entry 5 1 0 1 ++ entry 7 0 3 0) (5 ∷ []) 8 (Refused 3 1)
+    ∷ unfilled (everyIsBlank 4294967295) (5 ∷ []) 8 (Refused 21 1)
+    -- 21 at the first entry whose number has no parameter, after 1 to 7
+    ∷ unfilled (everyIsBlank 0) [] 8 (Refused 21 1)
+    ∷ unfilled (house 2 1 2 2) (5 ∷ []) 28 (Refused 21 5)
+    ∷ unfilled (house 2 0 2 1) (5 ∷ []) 28 (Refused 21 6)
+    ∷ unfilled (house 2 2 2 1) (5 ∷ []) 28 (Refused 21 5)
+    ∷ unfilled (entry 5 1 0 1 ++ entry 7 1 2 0) [] 8 (Refused 7 1)
+    -- 22: over 16 parameters, or one that is never used; after 21
+    ∷ fills (eachBlank 16) (replicate 16 5) (eachConstant 16 5)
+    ∷ unfilled (eachBlank 17) (replicate 17 5) 136 (Refused 22 0)
+    ∷ unfilled (everyIsBlank 0) (5 ∷ 5 ∷ []) 8 (Refused 22 0)
+    ∷ unfilled (house 2 0 2 2) (5 ∷ 5 ∷ 5 ∷ []) 28 (Refused 22 0)
+    ∷ unfilled ruleA (5 ∷ []) 24 (Refused 22 0)
+    -- a constant and a name with the number of a parameter do not use it
+    ∷ unfilled (house 1 0 1 0) (5 ∷ []) 28 (Refused 22 0)
+    ∷ unfilled (entry 5 1 0 1 ++ entry 5 2 1 2 ++ entry 5 3 2 0 ++ entry 7 2 1 4) (5 ∷ []) 16 (Refused 22 0)
+    ∷ unfilled (everyIsBlank 20) (replicate 17 5) 8 (Refused 21 1)
+    ∷ unfilled (house 2 0 2 2) (5 ∷ 5 ∷ []) 28 (Refused 21 6)
+    -- 17 is last
+    ∷ unfilled (everyIsBlank 0) (5 ∷ 5 ∷ []) 0 (Refused 22 0)
+    ∷ unfilled (everyIsBlank 0) (5 ∷ []) 7 (Refused 17 0)
     -- a set of rules: the number of rules
     ∷ setChecked (ruleA ++ ruleB) (6 ∷ 9 ∷ []) (Done 2)
     -- 20: no counts, more than 32, counts that don't add up, a leftover word, counts that add up modulo 2^32 alone
@@ -410,38 +471,3 @@ cases =
 -- the claim
 abbrev pub Worked : Type 0
 Worked = all right cases ≡ true
-
--- ---- rule A as 004 prints it, CL Constraint 1 (with the parentheses of section 4.2.2): [device = s₁]
--- (⟨device = s₁; vtp mode = x⟩ x = client ∨ ⟨device = s₁; vtp mode = x⟩ x = server), with name 1 device, 2 VTP mode; mode 1 client, 2 server
-unfoldable pub constraint1 : CL
-constraint1 =
-    EACH [] 1 (λ s₁. OR
-    (SOME ((1 is s₁) ∷ []) 2 (λ x. EQUAL x 1))
-    (SOME ((1 is s₁) ∷ []) 2 (λ x. EQUAL x 2)))
-
--- ---- section 4.2.2: [router = r₁] [router = r₁; interface = i₁] [router = r₁; interface = i₂]
--- [router = r₁, interface = i₁; ip-address = ip₁] [router = r₁, interface = i₂; ip-address = ip₂] (i₁ ≠ i₂ → ip₁ ≠ ip₂)
-unfoldable pub addresses : CL
-addresses =
-    EACH [] 1 (λ r₁. EACH ((1 is r₁) ∷ []) 2 (λ i₁. EACH ((1 is r₁) ∷ []) 2 (λ i₂.
-    EACH ((1 is r₁) ∷ (2 is i₁) ∷ []) 3 (λ ip₁. EACH ((1 is r₁) ∷ (2 is i₂) ∷ []) 3 (λ ip₂.
-    IMPLIES (NOT (EQUAL i₁ i₂)) (NOT (EQUAL ip₁ ip₂)))))))
-
--- the claim
-pub record AsPrinted : Type 0 where
-  pub first : stated (formula ruleA) 0 noStanding ≡ constraint1
-  pub second : stated (formula ruleAddresses) 0 noStanding ≡ addresses
-
--- ---- rules over any name in that form: [device = s] [device = s; interface = i] [device = s, interface = i; any x] ¬ x = 0
-unfoldable pub noneIsZero : CL
-noneIsZero =
-    EACH [] 1 (λ s. EACH ((1 is s) ∷ []) 3 (λ i. EACHPAIR ((1 is s) ∷ (3 is i) ∷ []) (λ x. NOT (EQUAL (x .value) 0))))
-
--- [any x] [x; any y] ⟨x, y; any z⟩ z = 1: the path goes on with the name and the value
-unfoldable pub eachHasOne : CL
-eachHasOne = EACHPAIR [] (λ x. EACHPAIR (x ∷ []) (λ y. SOMEPAIR (x ∷ y ∷ []) (λ z. EQUAL (z .value) 1)))
-
--- the claim
-pub record WithAnyName : Type 0 where
-  pub first : stated (formula nothingZero) 0 noStanding ≡ noneIsZero
-  pub second : stated (formula everyChildHasOne) 0 noStanding ≡ eachHasOne

@@ -1,5 +1,5 @@
 -- The rules, tables, plans and lines of files that the worked cases are about. Assumes nothing.
-use Prim.Native.Nat.{ℕ, zero, suc, _+_}
+use Prim.Native.Nat.{ℕ, zero, suc, _+_, _-_}
 use mathlib.Core.List.{List, [], _∷_, _++_, map}
 use lib.ListN.{replicate}
 
@@ -127,6 +127,32 @@ keepsRoots = entry 2 1 5 0 ++ entry 5 2 0 1 ++ entry 3 4 3 0 ++ entry 9 0 0 0 ++
 -- three roots, an a among them with an a under it
 abbrev pub rootsAndChild : List ℕ
 rootsAndChild = row 2 1 0 0 3 1 ++ row 2 2 0 0 3 3 ++ row 2 3 0 0 1 0 ++ row 2 4 3 1 1 3
+
+-- ---- templates
+-- every a is the parameter with that number
+abbrev pub everyIsBlank : ℕ → List ℕ
+everyIsBlank p = entry 5 1 0 1 ++ entry 7 0 2 p
+
+-- under every device (1), every 2 is the one, and every 3 at most the other; the b and c of both comparisons are given
+abbrev pub house : ℕ → ℕ → ℕ → ℕ → List ℕ
+house b c b′ c′ =
+    entry 2 1 2 0 ++ entry 5 3 0 1 ++ entry 5 4 0 1 ++ entry 5 5 1 2 ++ entry 5 6 1 3 ++ entry 7 1 b c ++ entry 9 1 b′ c′
+
+-- every 3 under a 2 under a 1 is that
+abbrev pub belowSecond : ℕ → ℕ → List ℕ
+belowSecond b c = entry 5 1 0 1 ++ entry 5 2 1 2 ++ entry 5 3 2 3 ++ entry 7 2 b c
+
+-- from entry i on, n + 1 comparisons of which some one is to hold; c of each is given, by its number
+abbrev pub eitherOf : ℕ → (ℕ → ℕ) → ℕ → ℕ → List ℕ
+eitherOf b c i zero = entry 7 0 b (c 0)
+eitherOf b c i (suc n) = entry 3 (i + 1) (i + 2) 0 ++ entry 7 0 b (c (suc n)) ++ eitherOf b c (i + 2) n
+
+-- every a is one of n parameters, each in a blank of its own; is the constant k, n times
+abbrev pub eachBlank : ℕ → List ℕ
+eachBlank n = entry 5 1 0 1 ++ eitherOf 2 (λ p. p) 1 (n - 1)
+
+abbrev pub eachConstant : ℕ → ℕ → List ℕ
+eachConstant n k = entry 5 1 0 1 ++ eitherOf 1 (λ p. k) 1 (n - 1)
 
 -- ---- plans
 abbrev pub setStep : ℕ → ℕ → ℕ → List ℕ

@@ -3,3 +3,4 @@ pub mod Stated
 pub mod Chains
 pub mod Inputs
 pub mod Cases
+pub mod Printed

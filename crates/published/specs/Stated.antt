@@ -13,8 +13,10 @@ use Rattle.tables.specs.Tables.{root, isParent, acceptedTable}
 use Rattle.tables.specs.declared.Row.{Row}
 use Rattle.tables.specs.declared.Answer.the-variants.{Done}
 use Rattle.sets.specs.Sets.{rulesOf, acceptedSet}
+use Rattle.templates.specs.Templates.{fillAnswer, written}
 use Rattle.logic.specs.Formulas.{Formula, negation, joined, quantified, compared, Connective, and, or, implies, Quantifier, every, some, Comparison, equal, less, atMost, Over, roots, under, Operand, variable, constant, formula, formulasOf}
 use Rattle.logic.specs.Verdict.{verdict, verdictAnswer, setVerdictsAnswer, setVerdictsOut}
+use Rattle.logic.specs.Templates.{templateFormula}
 use Rattle.logic.specs.Trial.{beginAnswer, trialOutcome, stateAt, bytesOf}
 use Rattle.published.specs.Published.{Tree, noNode, node, Pair, Path, _is_, _⊨_}
 use Rattle.published.specs.Published.{CL, NOT, OR, AND, IMPLIES, SOME, EACH, EQUAL, LESS, ATMOST, SOMEPAIR, EACHPAIR}
@@ -88,11 +90,18 @@ treeOf t (r ∷ rs) = elim (t r) [
 unfoldable pub tree : List Row → Tree
 tree T = treeOf root T
 
--- ---- the published truth of a rule on a table, both given in words
-unfoldable pub published : List ℕ → List ℕ → Bool
-published rule pool = tree (rows pool) ⊨ stated (formula rule) 0 noStanding
+-- ---- the published truth of a formula on a table that is given in words
+unfoldable pub truthOf : Formula → List ℕ → Bool
+truthOf F pool = tree (rows pool) ⊨ stated F 0 noStanding
 
--- ---- the claims, proved in proofs/Agree for every accepted rule and every accepted table
+-- of a rule, and of a template whose parameters are read directly (02, wish 5)
+abbrev pub published : List ℕ → List ℕ → Bool
+published rule pool = truthOf (formula rule) pool
+
+abbrev pub publishedTemplate : List ℕ → List ℕ → List ℕ → Bool
+publishedTemplate template parameters pool = truthOf (templateFormula template parameters) pool
+
+-- ---- the claims, proved in proofs/Agree
 -- it is the verdict on the rows
 abbrev pub Agreed : Type 0
 Agreed = (rule pool : List ℕ) → acceptedRule rule ≡ true → acceptedTable pool ≡ true
@@ -102,6 +111,12 @@ Agreed = (rule pool : List ℕ) → acceptedRule rule ≡ true → acceptedTable
 abbrev pub Answered : Type 0
 Answered = (rule pool : List ℕ) → acceptedRule rule ≡ true → acceptedTable pool ≡ true
     → verdictAnswer rule pool ≡ Done (one (published rule pool))
+
+-- what it answers for the rule that filling writes is the published truth of the template
+abbrev pub TemplateAnswered : Type 0
+TemplateAnswered =
+    (template parameters out pool : List ℕ) → isDone (fillAnswer template parameters (length out)) ≡ true → acceptedTable pool ≡ true
+    → verdictAnswer (written template parameters out) pool ≡ Done (one (publishedTemplate template parameters pool))
 
 -- each byte of a set's verdicts is its rule's published truth, in a buffer that is long enough; what stands past them stays
 abbrev pub SetAnswered : Type 0

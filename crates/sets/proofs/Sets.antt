@@ -15,7 +15,7 @@ use Rattle.base.proofs.Bools.{either, and-left, and-right}
 use Rattle.base.proofs.Sums.{sum-grows}
 use Rattle.tables.specs.Answers.{place, isDone, andThen, unless}
 use Rattle.tables.specs.Words.{whole, entryWords, entryCount}
-use Rattle.tables.specs.Rules.{entryFault, ruleLength, ruleChecks, checkRule, acceptedRule}
+use Rattle.tables.specs.Rules.{toConstant, entryFault, ruleLength, ruleChecks, checkEntries, checkRule, acceptedRule}
 use Rattle.tables.specs.declared.Answer.{Answer}
 use Rattle.tables.specs.declared.Answer.the-variants.{Done, Refused}
 use Rattle.tables.proofs.Answers.{first-at-fault, unless-ok, unless-next, unless-passed, andThen-first, andThen-next, andThen-passed}
@@ -24,9 +24,9 @@ use Rattle.sets.specs.Sets.{setLimit, entriesOf, entriesBefore, ruleAt, 
 -- ---- a rule's refusal
 -- its place is not past the rule
 refused-place : (r : List ℕ) {k p : ℕ} → checkRule r ≡ Refused k p → p ≤ entryCount r
-unfolding checkRule
+unfolding checkEntries
 refused-place r {k} {p} e = either (ruleLength r)
-    (λ q. let f = first-at-fault (entryFault r) (entryCount r) k p ruleChecks (rw q at e) in omega (arith, f .inside))
+    (λ q. let f = first-at-fault (entryFault toConstant r) (entryCount r) k p ruleChecks (rw q at e) in omega (arith, f .inside))
     (λ q. let z : Refused 1 0 ≡ Refused k p = (rw q at e) in omega (arith, ap place z))
 
 shifted-done : (before : ℕ) (a : Answer) → isDone (shifted before a) ≡ isDone a

@@ -1,4 +1,5 @@
--- What an accepted rule tells of its entries: kinds, children later and named once, nesting, variables bound. Assumes nothing.
+-- What 1 to 7 tell of the entries of an accepted rule or template, whatever b of a comparison may be at most: kinds, children later and
+-- named once, nesting, variables bound. Assumes nothing.
 use Prim.Native.Nat.{ℕ, zero, suc, _+_, _*_, _≤_, _<_}
 use mathlib.Core.Path.{_≡_, refl, ap, _∙_}
 use mathlib.Core.Logic.{⊎-elim}
@@ -11,13 +12,17 @@ use lib.Dec.{ltb, leb, eqb}
 use borrow.Author.Tests.{lt-ltb, ltb-false, leb-false, eqb-true, eq-eqb, le-leb, lt-leb, not-false}
 use Rattle.base.specs.Lists.{_∈_}
 use Rattle.base.specs.Search.{sumBelow}
-use Rattle.base.proofs.Bools.{either, and-both, or-left, or-right}
-use Rattle.tables.specs.Answers.{number, inOrder}
+use Rattle.base.proofs.Bools.{either, and-both, and-rest, or-left, or-right}
+use Rattle.tables.specs.Answers.{isDone, inOrder}
 use Rattle.tables.specs.Words.{entryWords, entryAt, entryCount}
-use Rattle.tables.specs.Rules.{nestingLimit, isQuantifier, isConnective, isComparison, hasChild, one, namings, isChild, timesNamed, aroundFrom, around, unknownKind, badPlace, badChild, badNaming, tooDeep, unbound, entryFault, entryLimit, ruleLength, ruleChecks, checkRule, acceptedRule}
+use Rattle.tables.specs.Rules.{nestingLimit, isQuantifier, isConnective, isComparison, hasChild, one, namings, isChild, timesNamed}
+use Rattle.tables.specs.Rules.{aroundFrom, around, unknownKind, badWord, badPlace, badChild, badNaming, tooDeep, unbound, entryFault}
+use Rattle.tables.specs.Rules.{entryLimit, ruleLength, ruleChecks, checkEntries}
 use Rattle.tables.specs.declared.Entry.{Entry}
-use Rattle.tables.specs.declared.Answer.the-variants.{Refused}
-use Rattle.tables.proofs.Answers.{unless-past, unless-ok, unless-next, listed, no-fault, FirstAtFault, first-at-fault, before, passed-earlier}
+use Rattle.tables.specs.declared.Answer.the-variants.{Done, Refused}
+use Rattle.tables.proofs.Answers.{unless-past, unless-ok, unless-next, unless-passed, listed, no-fault, in-order-passed}
+use Rattle.tables.proofs.Answers.{FirstAtFault, first-at-fault, before, passed-earlier}
+use Rattle.tables.proofs.Faults.{not-too-high}
 use Rattle.tables.proofs.Whole.{whole-lines, rule-whole, rule-some, rule-few}
 
 -- ---- a sum holds each of its terms
@@ -53,15 +58,10 @@ module _ (e : Entry) where
   pub not-quantifier : e .kind ≤ 4 → isQuantifier e ≡ false
   not-quantifier h = rw (lt-leb 5 (e .kind) (omega arith))
 
-  -- a test of entries that goes with another finds no fault
-  clear : (a b : Bool) → (a && b) ≡ false → a ≡ true → b ≡ false
-  clear true b f g = f
-  clear false b f g = absurd (false≢true g)
-
-module _ (r : List ℕ) (ok : acceptedRule r ≡ true) where
+module _ (most : ℕ) (r : List ℕ) (ok : isDone (checkEntries most r) ≡ true) where
   length-ok : ruleLength r ≡ true
-  unfolding checkRule
-  length-ok = unless-ok (ruleLength r) 1 (inOrder (entryFault r) (entryCount r) ruleChecks) ok
+  unfolding checkEntries
+  length-ok = unless-ok (ruleLength r) 1 (inOrder (entryFault most r) (entryCount r) ruleChecks) ok
 
   -- the words are those of whole entries, of which there is one
   pub whole-entries : length r ≡ entryWords * entryCount r
@@ -73,9 +73,16 @@ module _ (r : List ℕ) (ok : acceptedRule r ≡ true) where
   pub few-entries : entryCount r ≤ entryLimit
   few-entries = rule-few r length-ok
 
-  faultless : (k : ℕ) → k ∈ ruleChecks → (i : ℕ) → i < entryCount r → entryFault r k i ≡ false
-  unfolding checkRule
-  faultless = no-fault (entryFault r) (entryCount r) ruleChecks (unless-next (ruleLength r) 1 (inOrder (entryFault r) (entryCount r) ruleChecks) ok)
+  faultless : (k : ℕ) → k ∈ ruleChecks → (i : ℕ) → i < entryCount r → entryFault most r k i ≡ false
+  unfolding checkEntries
+  faultless = no-fault (entryFault most r) (entryCount r) ruleChecks (unless-next (ruleLength r) 1 (inOrder (entryFault most r) (entryCount r) ruleChecks) ok)
+
+  -- the checks answer the number of entries
+  pub checked-count : checkEntries most r ≡ Done (entryCount r)
+  unfolding checkEntries
+  checked-count =
+      unless-passed (ruleLength r) 1 (inOrder (entryFault most r) (entryCount r) ruleChecks) length-ok
+      ∙ in-order-passed (entryFault most r) (entryCount r) ruleChecks faultless
 
   -- each entry but 0 is named once
   pub named-once : (j : ℕ) → 0 < j → j < entryCount r → timesNamed r j ≡ 1
@@ -128,7 +135,7 @@ module _ (r : List ℕ) (ok : acceptedRule r ≡ true) where
       has-child = between (entryAt r i) 1 6 (kind-range .0) low
 
       pub child-later : (i < entryAt r i .a) × (entryAt r i .a < entryCount r)
-      child-later = later (entryAt r i .a) (clear (entryAt r i) (hasChild (entryAt r i)) _ (or-left (hasChild (entryAt r i) && badPlace (entryCount r) i (entryAt r i .a)) _ children-ok) has-child)
+      child-later = later (entryAt r i .a) (and-rest (hasChild (entryAt r i)) _ (or-left (hasChild (entryAt r i) && badPlace (entryCount r) i (entryAt r i .a)) _ children-ok) has-child)
 
       child-around : around r (entryAt r i .a) ≡ one (isQuantifier (entryAt r i)) + around r i
       child-around = around-child i (entryAt r i .a) (child-later .0) (child-later .1)
@@ -142,7 +149,7 @@ module _ (r : List ℕ) (ok : acceptedRule r ≡ true) where
       connective = between (entryAt r i) 2 4 high low
 
       pub right-later : (i < entryAt r i .b) × (entryAt r i .b < entryCount r)
-      right-later = later (entryAt r i .b) (clear (entryAt r i) (isConnective (entryAt r i)) _ (or-right (hasChild (entryAt r i) && badPlace (entryCount r) i (entryAt r i .a)) _ children-ok) connective)
+      right-later = later (entryAt r i .b) (and-rest (isConnective (entryAt r i)) _ (or-right (hasChild (entryAt r i) && badPlace (entryCount r) i (entryAt r i .a)) _ children-ok) connective)
 
       pub right-depth : around r (entryAt r i .b) ≡ around r i
       right-depth =
@@ -153,6 +160,14 @@ module _ (r : List ℕ) (ok : acceptedRule r ≡ true) where
           or-second : (a b : Bool) → b ≡ true → (a || b) ≡ true
           or-second true b e = refl
           or-second false b e = e
+
+    -- b of a comparison is at most that
+    pub b-limited : 7 ≤ entryAt r i .kind → entryAt r i .b ≤ most
+    unfolding entryFault
+    b-limited high =
+        let e = entryAt r i in
+        let words : badWord most e ≡ false = faultless 3 (listed ruleChecks 3 refl) i h in
+        ltb-false most (e .b) (and-rest (isComparison e) (ltb most (e .b)) (not-too-high e most words) (between e 7 9 high (kind-range .1)))
 
     unbound-ok : unbound (around r i) (entryAt r i) ≡ false
     unfolding entryFault
@@ -167,18 +182,18 @@ module _ (r : List ℕ) (ok : acceptedRule r ≡ true) where
       unfolding entryFault
       nesting =
           let e : tooDeep r i ≡ false = faultless 6 (listed ruleChecks 6 refl) i h in
-          leb-false nestingLimit (around r i) (clear (entryAt r i) (isQuantifier (entryAt r i)) _ e (is-quantifier (entryAt r i) high low))
+          leb-false nestingLimit (around r i) (and-rest (isQuantifier (entryAt r i)) _ e (is-quantifier (entryAt r i) high low))
 
       pub over-bound : entryAt r i .b ≤ around r i
       over-bound =
           ltb-false (around r i) (entryAt r i .b)
-          (clear (entryAt r i) (isQuantifier (entryAt r i)) _ (or-left (isQuantifier (entryAt r i) && ltb (around r i) (entryAt r i .b)) _ unbound-ok) (is-quantifier (entryAt r i) high low))
+          (and-rest (isQuantifier (entryAt r i)) _ (or-left (isQuantifier (entryAt r i) && ltb (around r i) (entryAt r i .b)) _ unbound-ok) (is-quantifier (entryAt r i) high low))
 
     -- a comparison's variables are bound
     module _ (high : 7 ≤ entryAt r i .kind) where
       compared-ok : (leb (around r i) (entryAt r i .a) || (eqb (entryAt r i .b) 0 && leb (around r i) (entryAt r i .c))) ≡ false
       compared-ok =
-          clear (entryAt r i) (isComparison (entryAt r i)) _ (or-right (isQuantifier (entryAt r i) && ltb (around r i) (entryAt r i .b)) _ unbound-ok)
+          and-rest (isComparison (entryAt r i)) _ (or-right (isQuantifier (entryAt r i) && ltb (around r i) (entryAt r i .b)) _ unbound-ok)
           (between (entryAt r i) 7 9 high (kind-range .1))
 
       pub left-bound : entryAt r i .a < around r i
@@ -187,16 +202,16 @@ module _ (r : List ℕ) (ok : acceptedRule r ≡ true) where
       pub right-bound : entryAt r i .b ≡ 0 → entryAt r i .c < around r i
       right-bound e =
           leb-false (around r i) (entryAt r i .c)
-          (clear (entryAt r i) (eqb (entryAt r i .b) 0) _ (or-right (leb (around r i) (entryAt r i .a)) _ compared-ok) (eq-eqb (entryAt r i .b) 0 e))
+          (and-rest (eqb (entryAt r i .b) 0) _ (or-right (leb (around r i) (entryAt r i .a)) _ compared-ok) (eq-eqb (entryAt r i .b) 0 e))
 
--- ---- a refused rule: but for 1, the place is the first entry with the fault of that number, and no entry has an earlier one
-module _ (r : List ℕ) (k p : ℕ) (h : 1 < k) (refused : checkRule r ≡ Refused k p) where
-  in-entries : inOrder (entryFault r) (entryCount r) ruleChecks ≡ Refused k p
-  unfolding checkRule
+-- ---- a refused rule or template: but for 1, the place is the first entry with the fault of that number, and no entry has an earlier one
+module _ (most : ℕ) (r : List ℕ) (k p : ℕ) (h : 1 < k) (refused : checkEntries most r ≡ Refused k p) where
+  in-entries : inOrder (entryFault most r) (entryCount r) ruleChecks ≡ Refused k p
+  unfolding checkEntries
   in-entries = unless-past (ruleLength r) 1 _ (λ e. omega arith) refused
 
-  pub refused-entry : FirstAtFault (entryFault r) (entryCount r) k p
-  refused-entry = first-at-fault (entryFault r) (entryCount r) k p ruleChecks in-entries
+  pub refused-entry : FirstAtFault (entryFault most r) (entryCount r) k p
+  refused-entry = first-at-fault (entryFault most r) (entryCount r) k p ruleChecks in-entries
 
-  pub passed-entries : (x : ℕ) → before x k ruleChecks ≡ true → (i : ℕ) → i < entryCount r → entryFault r x i ≡ false
-  passed-entries = passed-earlier (entryFault r) (entryCount r) k p ruleChecks in-entries
+  pub passed-entries : (x : ℕ) → before x k ruleChecks ≡ true → (i : ℕ) → i < entryCount r → entryFault most r x i ≡ false
+  passed-entries = passed-earlier (entryFault most r) (entryCount r) k p ruleChecks in-entries

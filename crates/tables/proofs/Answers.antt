@@ -1,15 +1,15 @@
 -- What an accepted answer tells of the checks before it, and when checks are passed. Assumes nothing.
 use Prim.Native.Nat.{ℕ, _<_}
-use mathlib.Core.Path.{_≡_, refl, sym, ap, subst}
+use mathlib.Core.Path.{_≡_, refl, sym, ap, ap₂, subst}
 use mathlib.Core.Bool.{Bool, true, false, cond, _||_, true≢false, false≢true}
 use mathlib.Core.List.{List, [], _∷_, List·Memᴰ·head, List·Memᴰ·tail}
-use lib.Dec.{eqb}
+use lib.Dec.{eqb, ltb}
 use borrow.Author.Tests.{eqb-true, eq-eqb, ltb-true}
 use Rattle.base.specs.Lists.{_∈_, any}
 use Rattle.base.specs.Search.{first, some}
 use Rattle.base.proofs.Bools.{either}
 use Rattle.base.proofs.Lists.{any-at}
-use Rattle.base.proofs.Search.{some-none, none-at, none-before, at-first}
+use Rattle.base.proofs.Search.{some-none, none-at, none-before, at-first, first-same}
 use Rattle.tables.specs.Answers.{number, place, isDone, andThen, unless, unlessAny, inOrder}
 use Rattle.tables.specs.declared.Answer.{Answer}
 use Rattle.tables.specs.declared.Answer.the-variants.{Done, Refused}
@@ -73,6 +73,12 @@ module _ (fault : ℕ → ℕ → Bool) (n : ℕ) where
   in-order-passed (x ∷ ks) h =
       let e : inOrder fault n ks ≡ Done n = in-order-passed ks (λ k m. h k (List·Memᴰ·tail m)) in
       rw (unlessAny-passed (fault x) x n (inOrder fault n ks) (h x (List·Memᴰ·head refl))) e
+
+-- checks that find the same faults answer the same
+pub in-order-same : (f g : ℕ → ℕ → Bool) (n : ℕ) → ((k i : ℕ) → i < n → f k i ≡ g k i) → (ks : List ℕ) → inOrder f n ks ≡ inOrder g n ks
+in-order-same f g n h [] = refl
+in-order-same f g n h (k ∷ ks) =
+    ap₂ (λ (m : ℕ) (next : Answer). cond (ltb m n) (Refused k m) next) (first-same (f k) (g k) n (h k)) (in-order-same f g n h ks)
 
 -- ---- a refusal: its place is the first one with the fault of its number
 pub record FirstAtFault (fault : ℕ → ℕ → Bool) (n k p : ℕ) : Type 0 where

@@ -1,7 +1,7 @@
 -- Each number's fault of an entry or a row, and the refusals in their order. Assumes nothing.
 use Prim.Native.Nat.{ℕ, _+_, _-_, _≤_, _<_}
 use mathlib.Core.Path.{_≡_, sym, ap, _∙_}
-use mathlib.Core.Bool.{Bool, true, false, not, _&&_}
+use mathlib.Core.Bool.{Bool, true, false, not, _&&_, _||_}
 use mathlib.Core.List.{List, [], _∷_, _++_, append-nil}
 use native.Mathlib.Numerals.{add-one}
 use native.Mathlib.Omega.{arith}
@@ -10,8 +10,10 @@ use lib.ListN.{length, getD, drop, drop-of-length-le}
 use lib.Seq.{drop-cons}
 use borrow.Author.Tests.{ne-eqb, lt-ltb, le-ltb}
 use Rattle.base.specs.Search.{sumBelow, first}
-use Rattle.tables.specs.Words.{entryAt, entryCount, rowAt, rowCount}
-use Rattle.tables.specs.Rules.{nestingLimit, unknownKind, badWord, badChild, unbound, isQuantifier, namings, around, entryFault, ruleLength, ruleChecks, checkRule}
+use Rattle.base.proofs.Bools.{or-left, or-right}
+use Rattle.tables.specs.Words.{notIdentifier, entryAt, entryCount, rowAt, rowCount}
+use Rattle.tables.specs.Rules.{nestingLimit, isNot, isConnective, isQuantifier, isComparison, namings, around, unknownKind, anyName}
+use Rattle.tables.specs.Rules.{badWord, badChild, unbound, entryFault, ruleLength, ruleChecks, checkEntries}
 use Rattle.tables.specs.Answers.{unlessAny, inOrder}
 use Rattle.tables.specs.Tables.{outOfRange, isAbove, hasTwin, rowFault, tableLength, tableChecks, checkTable}
 use Rattle.tables.specs.Links.{plainFault, FirstFaults}
@@ -20,32 +22,53 @@ use Rattle.tables.specs.declared.Row.{Row}
 use Rattle.tables.specs.declared.Answer.{Answer}
 use Rattle.tables.specs.declared.Answer.the-variants.{Done, Refused}
 
-module _ (r : List ℕ) (k i : ℕ) (e : Entry) (e-is : e ≡ entryAt r i) where
-  pub fault-2 : k ≡ 2 → (b : Bool) → b ≡ unknownKind e → b ≡ entryFault r k i
+-- ---- 3 asks for the most that b may be in comparisons, and there alone
+module _ (e : Entry) where
+  abbrev bDue : Bool
+  bDue = isNot e && not (eqb (e .b) 0)
+
+  abbrev cDue : Bool
+  cDue = (isNot e || isConnective e) && not (eqb (e .c) 0)
+
+  abbrev badName : Bool
+  badName = isQuantifier e && not (eqb (e .c) anyName) && notIdentifier (e .c)
+
+  abbrev tooHigh : ℕ → Bool
+  tooHigh most = isComparison e && ltb most (e .b)
+
+  pub not-too-high : (most : ℕ) → badWord most e ≡ false → (isComparison e && ltb most (e .b)) ≡ false
+  not-too-high most h = or-right (bDue || cDue) (tooHigh most) (or-left (bDue || cDue || tooHigh most) badName h)
+
+  pub words-same : (m n : ℕ) → (isComparison e && ltb m (e .b)) ≡ (isComparison e && ltb n (e .b)) → badWord m e ≡ badWord n e
+  words-same m n h = ap (λ (x : Bool). bDue || cDue || x || badName) h
+
+-- ---- each number's fault of an entry
+module _ (most : ℕ) (r : List ℕ) (k i : ℕ) (e : Entry) (e-is : e ≡ entryAt r i) where
+  pub fault-2 : k ≡ 2 → (b : Bool) → b ≡ unknownKind e → b ≡ entryFault most r k i
   unfolding entryFault
   fault-2 z b h = h ∙ ap (λ (x : Entry). unknownKind x) e-is ∙ rw z
 
-  pub fault-3 : k ≡ 3 → (b : Bool) → b ≡ badWord e → b ≡ entryFault r k i
+  pub fault-3 : k ≡ 3 → (b : Bool) → b ≡ badWord most e → b ≡ entryFault most r k i
   unfolding entryFault
-  fault-3 z b h = h ∙ ap (λ (x : Entry). badWord x) e-is ∙ rw z
+  fault-3 z b h = h ∙ ap (λ (x : Entry). badWord most x) e-is ∙ rw z
 
   module _ (n : ℕ) (n-is : n ≡ entryCount r) where
-    pub fault-4 : k ≡ 4 → (b : Bool) → b ≡ badChild n i e → b ≡ entryFault r k i
+    pub fault-4 : k ≡ 4 → (b : Bool) → b ≡ badChild n i e → b ≡ entryFault most r k i
     unfolding entryFault
     fault-4 z b h = h ∙ ap (λ (x : Entry). badChild n i x) e-is ∙ ap (λ (m : ℕ). badChild m i (entryAt r i)) n-is ∙ rw z
 
-    pub fault-5 : k ≡ 5 → (m : ℕ) → m ≡ sumBelow (λ j. namings (entryAt r j) i) n → (ltb 0 i && not (eqb m 1)) ≡ entryFault r k i
+    pub fault-5 : k ≡ 5 → (m : ℕ) → m ≡ sumBelow (λ j. namings (entryAt r j) i) n → (ltb 0 i && not (eqb m 1)) ≡ entryFault most r k i
     unfolding entryFault
     fault-5 z m h = ap (λ (x : ℕ). ltb 0 i && not (eqb x 1)) (h ∙ ap (sumBelow (λ j. namings (entryAt r j) i)) n-is) ∙ rw z
 
   module _ (d : ℕ) (d-is : d ≡ around r i) where
-    pub fault-6 : k ≡ 6 → (b : Bool) → b ≡ isQuantifier e → (b && leb nestingLimit d) ≡ entryFault r k i
+    pub fault-6 : k ≡ 6 → (b : Bool) → b ≡ isQuantifier e → (b && leb nestingLimit d) ≡ entryFault most r k i
     unfolding entryFault
     fault-6 z b h =
         ap (λ (x : Bool). x && leb nestingLimit d) (h ∙ ap (λ (x : Entry). isQuantifier x) e-is)
         ∙ ap (λ (m : ℕ). isQuantifier (entryAt r i) && leb nestingLimit m) d-is ∙ rw z
 
-    pub fault-7 : (k ≡ 2 → ⊥) → (k ≡ 3 → ⊥) → (k ≡ 4 → ⊥) → (k ≡ 5 → ⊥) → (k ≡ 6 → ⊥) → (b : Bool) → b ≡ unbound d e → b ≡ entryFault r k i
+    pub fault-7 : (k ≡ 2 → ⊥) → (k ≡ 3 → ⊥) → (k ≡ 4 → ⊥) → (k ≡ 5 → ⊥) → (k ≡ 6 → ⊥) → (b : Bool) → b ≡ unbound d e → b ≡ entryFault most r k i
     unfolding entryFault
     fault-7 n2 n3 n4 n5 n6 b h =
         h ∙ ap (λ (x : Entry). unbound d x) e-is ∙ ap (λ (m : ℕ). unbound m (entryAt r i)) d-is
@@ -73,13 +96,13 @@ module _ {answer : Answer} {fault : ℕ → ℕ → Bool} {n : ℕ} {checks : Li
   test-end h = sym (s .rest ∙ rw (drop-of-length-le checks h))
 
 -- ---- a rule's length
-module _ (r : List ℕ) where
-  pub rule-length : ruleLength r ≡ false → Refused 1 0 ≡ checkRule r
-  unfolding checkRule
+module _ (most : ℕ) (r : List ℕ) where
+  pub rule-length : ruleLength r ≡ false → Refused 1 0 ≡ checkEntries most r
+  unfolding checkEntries
   rule-length e = simp e
 
-  pub rule-begin : ruleLength r ≡ true → Tested (checkRule r) (entryFault r) (entryCount r) ruleChecks 0
-  unfolding checkRule
+  pub rule-begin : ruleLength r ≡ true → Tested (checkEntries most r) (entryFault most r) (entryCount r) ruleChecks 0
+  unfolding checkEntries
   rule-begin e = record { rest = simp e }
 
 -- ---- a table's length

@@ -10,7 +10,7 @@ use lib.Dec.{eqb}
 use borrow.Author.Tests.{eqb-true, ltb-true}
 use Rattle.base.specs.Search.{first, some}
 use Rattle.base.proofs.Bools.{either, and-left, and-right, and-both, or-first, or-second}
-use Rattle.base.proofs.Search.{Passed, none, at-first, none-at, some-at, some-none}
+use Rattle.base.proofs.Search.{at-first, none-at, some-at, some-none, some-same}
 use Rattle.tables.specs.Words.{rowWords, rowAt}
 use Rattle.tables.specs.Tables.{root, isTwin}
 use Rattle.tables.specs.declared.Row.{Row}
@@ -35,19 +35,6 @@ some-more p n = either (some p n)
 
 pub some-all : (p : ℕ → Bool) (n i : ℕ) (found : Bool) → i ≤ n → found ≡ some p i → n ≤ i → found ≡ some p n
 some-all p n i found h e l = let q : i ≡ n = omega arith in e ∙ ap (some p) q
-
-pub scan-end : (p : ℕ → Bool) (n i : ℕ) → Passed p n i → n ≤ i → false ≡ some p n
-scan-end p n i s l = either (some p n)
-    (λ e.
-    let f : n ≡ first p n = none p n i s l in
-    let b : first p n < n = ltb-true _ _ e in
-    absurd (omega arith))
-    (λ e. sym e)
-
-some-same : (p q : ℕ → Bool) (n : ℕ) → ((j : ℕ) → j < n → p j ≡ q j) → some p n ≡ some q n
-some-same p q n h = either (some p n)
-    (λ e. let l : first p n < n = ltb-true _ _ e in e ∙ sym (some-at q n (first p n) l (sym (h (first p n) l) ∙ at-first p n l)))
-    (λ e. e ∙ sym (some-none q n (λ j l. sym (h j l) ∙ none-at p n j e l)))
 
 some-left : (p : ℕ → Bool) (m n : ℕ) → m ≤ n → some p m ≡ true → true ≡ some p n
 some-left p m n h e = let l : first p m < m = ltb-true _ _ e in sym (some-at p n (first p m) (omega arith) (at-first p m l))

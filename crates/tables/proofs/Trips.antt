@@ -9,7 +9,7 @@ use Rattle.tables.specs.declared.Answer.{Answer}
 use Rattle.tables.specs.declared.Answer.the-variants.{Done}
 use Rattle.tables.specs.Answers.{isDone, inOrder}
 use Rattle.tables.specs.Words.{whole, entryWords, entryCount, rowWords, rowCount}
-use Rattle.tables.specs.Rules.{checkRule, entryFault, ruleLength, ruleChecks}
+use Rattle.tables.specs.Rules.{toConstant, entryFault, ruleLength, ruleChecks, checkEntries, checkRule}
 use Rattle.tables.specs.Tables.{checkTable, rowFault, tableLength, tableChecks}
 use Rattle.tables.specs.Files.{Format, ruleNames, ruleFormat, poolNames, poolFormat, writeText, readWords, checkFile}
 use Rattle.tables.specs.Trips.{fileIn, tableIn, TablesReturn, FilesReturn, RoundTrips}
@@ -46,8 +46,8 @@ module _ (names : List ℕ) (f : Format) (check : List ℕ → Answer) where
       }
 
 rule-lines : (r : List ℕ) → isDone (checkRule r) ≡ true → whole entryWords r ≡ true
-unfolding checkRule
-rule-lines r ok = rule-whole r (unless-ok (ruleLength r) 1 (inOrder (entryFault r) (entryCount r) ruleChecks) ok)
+unfolding checkEntries
+rule-lines r ok = rule-whole r (unless-ok (ruleLength r) 1 (inOrder (entryFault toConstant r) (entryCount r) ruleChecks) ok)
 
 table-lines : (t : List ℕ) → isDone (checkTable t) ≡ true → whole rowWords t ≡ true
 unfolding checkTable

@@ -9,7 +9,7 @@ use lib.Dec.{ltb, leb, eqb}
 use Rattle.tables.specs.Answers.{isDone, andThen, fitting, output}
 use Rattle.tables.specs.Words.{wordLimit, entryWords, rowWords}
 use Rattle.tables.specs.Values.{valueLimit, isBelowZero, opposite}
-use Rattle.tables.specs.Rules.{comparisonKind, checkRule}
+use Rattle.tables.specs.Rules.{comparisonKind, toConstant, checkRule}
 use Rattle.tables.specs.Tables.{checkTable}
 use Rattle.tables.specs.declared.Answer.{Answer}
 use Rattle.tables.specs.declared.Answer.the-variants.{Done, Refused}
@@ -45,7 +45,7 @@ pub record Format : Type 0 where
 -- the value column of a pool file; c of a rule file, where a comparison has b = 1; none of the program's text
 abbrev pub tellsOf : Signs → ℕ → ℕ → Bool → Bool
 tellsOf Values c w told = true
-tellsOf Constants c w told = cond (eqb c 0) (comparisonKind w) (cond (eqb c 2) (told && eqb w 1) told)
+tellsOf Constants c w told = cond (eqb c 0) (comparisonKind w) (cond (eqb c 2) (told && eqb w toConstant) told)
 tellsOf Nowhere c w told = false
 
 abbrev pub format : ℕ → Signs → Format

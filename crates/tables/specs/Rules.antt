@@ -1,4 +1,4 @@
--- 01, the refusals of a rule: 1 to 7. Assumes nothing.
+-- 01, the refusals of a rule: 1 to 7; 02, wish 5, of a template, where 3 lets b of a comparison be 2, too. Assumes nothing.
 use Prim.Native.Nat.{ℕ, zero, suc, _+_}
 use mathlib.Core.Bool.{Bool, true, false, cond, not, _&&_, _||_}
 use mathlib.Core.List.{List, [], _∷_}
@@ -68,12 +68,19 @@ unknownKind e = ltb (e .kind) 1 || ltb 9 (e .kind)
 abbrev pub anyName : ℕ
 anyName = 0
 
--- 3: a word due 0 isn't; b of a comparison above 1; a quantifier's name neither that of any name nor in range
-abbrev pub badWord : Entry → Bool
-badWord e =
+-- b of a comparison to a constant; and to a parameter, whose number is c: a blank, in templates only (02, wish 5)
+abbrev pub toConstant : ℕ
+toConstant = 1
+
+abbrev pub toParameter : ℕ
+toParameter = 2
+
+-- 3: a word due 0 isn't; b of a comparison above `most`; a quantifier's name neither that of any name nor in range
+abbrev pub badWord : ℕ → Entry → Bool
+badWord most e =
     (isNot e && not (eqb (e .b) 0))
     || ((isNot e || isConnective e) && not (eqb (e .c) 0))
-    || (isComparison e && ltb 1 (e .b))
+    || (isComparison e && ltb most (e .b))
     || (isQuantifier e && not (eqb (e .c) anyName) && notIdentifier (e .c))
 
 -- 4: child not later, or beyond the end
@@ -98,10 +105,10 @@ unbound d e =
     || (isComparison e && (leb d (e .a) || (eqb (e .b) 0 && leb d (e .c))))
 
 -- entry i has the fault of that number
-unfoldable pub entryFault : List ℕ → ℕ → ℕ → Bool
-entryFault r k i =
+unfoldable pub entryFault : ℕ → List ℕ → ℕ → ℕ → Bool
+entryFault most r k i =
     cond (eqb k 2) (unknownKind (entryAt r i))
-    (cond (eqb k 3) (badWord (entryAt r i))
+    (cond (eqb k 3) (badWord most (entryAt r i))
     (cond (eqb k 4) (badChild (entryCount r) i (entryAt r i))
     (cond (eqb k 5) (badNaming r i)
     (cond (eqb k 6) (tooDeep r i)
@@ -119,9 +126,16 @@ ruleLength r = whole entryWords r && (leb 1 (entryCount r) && leb (entryCount r)
 abbrev pub ruleChecks : List ℕ
 ruleChecks = 2 ∷ 3 ∷ 4 ∷ 5 ∷ 6 ∷ 7 ∷ []
 
--- the answer of the rule checks: the number of entries, or the first refusal
-unfoldable pub checkRule : List ℕ → Answer
-checkRule r = unless (ruleLength r) 1 (inOrder (entryFault r) (entryCount r) ruleChecks)
+-- the answer of 1 to 7, where b of a comparison is at most `most`: the number of entries, or the first refusal
+unfoldable pub checkEntries : ℕ → List ℕ → Answer
+checkEntries most r = unless (ruleLength r) 1 (inOrder (entryFault most r) (entryCount r) ruleChecks)
+
+-- the checks of a rule, and of a template (02, wish 5)
+abbrev pub checkRule : List ℕ → Answer
+checkRule = checkEntries toConstant
+
+abbrev pub checkTemplate : List ℕ → Answer
+checkTemplate = checkEntries toParameter
 
 -- a rule is accepted if its checks find no fault
 abbrev pub acceptedRule : List ℕ → Bool

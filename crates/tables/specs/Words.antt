@@ -70,5 +70,9 @@ entryAt r i = record {
   c = word entryWords r i 3;
 }
 
+-- the words of an entry, in the entry's order
+abbrev pub entryColumns : Entry → List ℕ
+entryColumns e = e .kind ∷ e .a ∷ e .b ∷ e .c ∷ []
+
 abbrev pub entryCount : List ℕ → ℕ
 entryCount r = length r / entryWords

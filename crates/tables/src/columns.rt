@@ -1,6 +1,7 @@
 // The columns of a file's line of values.
 use super::entries::B;
 use super::entries::KIND;
+use super::entries::TO_CONSTANT;
 ghost use mathlib.Core.Path.{_≡_};
 ghost use Prim.Native.Nat.{_<_};
 ghost use Rattle.tables.specs.Files.{byteAfter, nextColumn, tellsOf, format, toldNext, maySign};
@@ -54,7 +55,7 @@ pub(crate) fn tells(signs: Signs, c: usize, w: u32, told: bool) -> bool
                 return (7 <= w) & (w <= 9);
             }
             if c == B {
-                return told & (w == 1);
+                return told & (w == TO_CONSTANT);
             }
             told
         }

@@ -21,6 +21,11 @@ pub const C: usize = 3;
 // The name word of a quantifier that takes rows of any name.
 pub const ANY_NAME: u32 = 0;
 
+// b of a comparison to a constant; and to a parameter, in templates only.
+pub const TO_CONSTANT: u32 = 1;
+
+pub const TO_PARAMETER: u32 = 2;
+
 pub(crate) fn entry_at(rule: &[u32], i: usize) -> Entry
     requires { ⌜ entryWords * i + entryWords ≤ length (now rule) ⌝ }
     ensures { λ r. ⌜ r ≡ entryAt (now (rule .entry)) i ⌝ }
@@ -39,12 +44,13 @@ pub(crate) fn unknown_kind(e: Entry) -> bool
     (e.kind < 1) | (9 < e.kind)
 }
 
-pub(crate) fn bad_word(e: Entry) -> bool
-    ensures { λ o. ⌜ o ≡ badWord e ⌝ }
+// b of a comparison is at most `most`.
+pub(crate) fn bad_word(most: u32, e: Entry) -> bool
+    ensures { λ o. ⌜ o ≡ badWord most e ⌝ }
 {
     ((e.kind == 1) & !(e.b == 0))
         | (((e.kind == 1) | ((2 <= e.kind) & (e.kind <= 4))) & !(e.c == 0))
-        | (((7 <= e.kind) & (e.kind <= 9)) & (1 < e.b))
+        | (((7 <= e.kind) & (e.kind <= 9)) & (most < e.b))
         | (((5 <= e.kind) & (e.kind <= 6)) & !(e.c == ANY_NAME) & ((e.c < 1) | (65535 < e.c)))
 }
 

@@ -1,4 +1,4 @@
-//! The entries of an accepted rule, by meaning.
+//! The entries of an accepted rule or template, by meaning.
 
 use super::table::Row;
 use super::values::value_of;
@@ -43,6 +43,8 @@ pub enum Relation {
 pub enum Right {
     Variable(usize),
     Constant(u32),
+    /// The number of a parameter: the comparison is a blank. No rule has one.
+    Parameter(usize),
 }
 
 impl Entry {
@@ -50,7 +52,11 @@ impl Entry {
     pub fn from_words([kind, a, b, c]: [u32; 4]) -> Entry {
         let (left, right) = (a as usize, b as usize);
         let comparison = |relation| {
-            let right = if b == 0 { Right::Variable(c as usize) } else { Right::Constant(c) };
+            let right = match b {
+                0 => Right::Variable(c as usize),
+                1 => Right::Constant(c),
+                _ => Right::Parameter(c as usize),
+            };
             Entry::Comparison(Comparison { relation, left, right })
         };
         match kind {
@@ -96,6 +102,14 @@ impl Entry {
             _ => vec![],
         }
     }
+
+    /// The parameter number of a blank.
+    pub fn parameter(&self) -> Option<usize> {
+        match *self {
+            Entry::Comparison(Comparison { right: Right::Parameter(number), .. }) => Some(number),
+            _ => None,
+        }
+    }
 }
 
 impl Quantifier {
@@ -110,17 +124,18 @@ impl Comparison {
     pub fn variables(&self) -> Vec<usize> {
         match self.right {
             Right::Variable(right) => vec![self.left, right],
-            Right::Constant(_) => vec![self.left],
+            Right::Constant(_) | Right::Parameter(_) => vec![self.left],
         }
     }
 
-    /// Whether it holds, given the word of each variable that it uses. Nothing else compares values in order:
-    /// verdict, marks, readings and trials all ask here.
-    pub fn holds(&self, word: impl Fn(usize) -> u32) -> bool {
+    /// Whether it holds, given the word of each variable that it uses, and the parameters, none for a rule. Nothing
+    /// else compares values in order: verdict, marks, readings and trials all ask here.
+    pub fn holds(&self, word: impl Fn(usize) -> u32, parameters: &[u32]) -> bool {
         let left = value_of(word(self.left));
         let right = value_of(match self.right {
             Right::Variable(variable) => word(variable),
             Right::Constant(constant) => constant,
+            Right::Parameter(number) => parameters[number],
         });
         match self.relation {
             Relation::Equal => left == right,

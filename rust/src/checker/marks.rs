@@ -12,7 +12,7 @@ pub fn marks(rule: &[u32], pool: &[u32], marks: &mut [u8]) -> Answer {
 /// The verdict, and one byte for each row.
 pub fn marks_of(rule: &[u32], pool: &[u32]) -> Result<(bool, Vec<u8>), Refusal> {
     let (entries, rows) = accepted(rule, pool)?;
-    let evaluation = Evaluation { entries: &entries, rows: &rows };
+    let evaluation = Evaluation::of_rule(&entries, &rows);
     let verdict = evaluation.verdict(0, &mut vec![]);
     let mut marked = Marking { evaluation, marks: vec![0; rows.len()] };
     marked.reason(0, verdict, &mut vec![]);

@@ -18,6 +18,7 @@ mod rule;
 mod set;
 mod spare;
 mod table;
+mod template;
 mod tests_of_line;
 mod trial;
 mod values;
@@ -28,6 +29,8 @@ mod worked;
 mod worked_any_name;
 #[cfg(test)]
 mod worked_signs;
+#[cfg(test)]
+mod worked_templates;
 #[cfg(test)]
 mod worked_trials;
 
@@ -44,6 +47,7 @@ pub use rule::{accepted_rule, check_rule, ENTRY_WORDS, MOST_ENTRIES, MOST_NESTED
 pub use set::{accepted_set, check_set, rules_of, set_part, set_verdicts, verdicts_on, MOST_RULES};
 pub use spare::{spare_rows, spare_rows_reached_by};
 pub use table::{accepted_table, check_table, parent_of, rows_of, words_of, Row, MOST_ROWS, ROW_WORDS};
+pub use template::{accepted_template, fill, filled, is_blank, template_verdict, MOST_PARAMETERS};
 pub use trial::{rows_after, tried, try_plan, Room, Tried, ADD, REMOVE, SET, STEP_WORDS};
 pub use values::{value_of, word_of, LEAST_VALUE, MOST_VALUE};
 pub use verdict::{verdict, Evaluation};

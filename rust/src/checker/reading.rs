@@ -70,7 +70,7 @@ impl Switch<'_> {
             return Reading::Open;
         }
         let value = |variable: usize| self.rows[bound[variable].expect("bound")].value;
-        Reading::of(comparison.holds(value))
+        Reading::of(comparison.holds(value, &[]))
     }
 
     fn read_quantifier(&self, quantifier: Quantifier, bound: &mut Bindings) -> Reading {

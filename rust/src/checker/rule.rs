@@ -1,4 +1,4 @@
-//! Checks 1 to 7.
+//! Checks 1 to 7, of rules and templates.
 
 use super::entry::Entry;
 use super::tests_of_line::{test, test_each};
@@ -16,11 +16,24 @@ pub fn check_rule(rule: &[u32]) -> Answer {
 
 /// The entries of an accepted rule, or its refusal.
 pub fn accepted_rule(rule: &[u32]) -> Result<Vec<Entry>, Refusal> {
-    let count = rule.len() / ENTRY_WORDS;
-    test(1, !rule.len().is_multiple_of(ENTRY_WORDS) || !(1..=MOST_ENTRIES).contains(&count))?;
-    let words: Vec<[u32; 4]> = rule.chunks(ENTRY_WORDS).map(|w| [w[0], w[1], w[2], w[3]]).collect();
+    accepted(rule, Form::Rule)
+}
+
+/// What the words are to be. The two differ in check 3 alone.
+#[derive(Clone, Copy, Debug, PartialEq, Eq)]
+pub enum Form {
+    Rule,
+    /// Its comparisons may be blanks.
+    Template,
+}
+
+/// The entries of an accepted rule, or of a template that passes 1 to 7; or the refusal.
+pub fn accepted(words: &[u32], form: Form) -> Result<Vec<Entry>, Refusal> {
+    let count = words.len() / ENTRY_WORDS;
+    test(1, !words.len().is_multiple_of(ENTRY_WORDS) || !(1..=MOST_ENTRIES).contains(&count))?;
+    let words: Vec<[u32; 4]> = words.chunks(ENTRY_WORDS).map(|w| [w[0], w[1], w[2], w[3]]).collect();
     test_each(2, count, |place| !(1..=9).contains(&words[place][0]))?;
-    test_each(3, count, |place| word_at_fault(words[place]))?;
+    test_each(3, count, |place| word_at_fault(words[place], form))?;
     let entries: Vec<Entry> = words.into_iter().map(Entry::from_words).collect();
     test_each(4, count, |place| {
         entries[place].children().iter().any(|&child| child <= place || child >= count)
@@ -35,12 +48,13 @@ pub fn accepted_rule(rule: &[u32]) -> Result<Vec<Entry>, Refusal> {
     Ok(entries)
 }
 
-/// Check 3. Variables, child places and constants have no limit here.
-fn word_at_fault([kind, _, b, c]: [u32; 4]) -> bool {
+/// Check 3. Variables, child places, constants and parameter numbers have no limit here.
+fn word_at_fault([kind, _, b, c]: [u32; 4], form: Form) -> bool {
     match kind {
         1 => b != 0 || c != 0,
         2..=4 => c != 0,
         5 | 6 => c != ANY_NAME && !(1..=MOST_NAME).contains(&c),
+        _ if form == Form::Template => b > 2,
         _ => b > 1,
     }
 }

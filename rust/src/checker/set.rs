@@ -31,7 +31,7 @@ fn verdicts_of(rules: &[u32], counts: &[u32], pool: &[u32]) -> Result<Vec<u8>, R
 
 /// The same of an accepted set on an accepted pool.
 pub fn verdicts_on(set: &[Vec<Entry>], rows: &[Row]) -> Vec<u8> {
-    let verdict = |entries: &Vec<Entry>| Evaluation { entries, rows }.verdict(0, &mut vec![]);
+    let verdict = |entries: &Vec<Entry>| Evaluation::of_rule(entries, rows).verdict(0, &mut vec![]);
     set.iter().map(|entries| verdict(entries) as u8).collect()
 }
 

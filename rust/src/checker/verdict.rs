@@ -7,7 +7,7 @@ use crate::answer::{Answer, Refusal};
 
 pub fn verdict(rule: &[u32], pool: &[u32]) -> Answer {
     accepted(rule, pool)
-        .map(|(entries, rows)| Evaluation { entries: &entries, rows: &rows }.verdict(0, &mut vec![]) as usize)
+        .map(|(entries, rows)| Evaluation::of_rule(&entries, &rows).verdict(0, &mut vec![]) as usize)
         .into()
 }
 
@@ -16,13 +16,19 @@ pub fn accepted(rule: &[u32], table: &[u32]) -> Result<(Vec<Entry>, Vec<Row>), R
     Ok((accepted_rule(rule)?, accepted_table(table)?))
 }
 
-/// A rule and a pool, both accepted.
+/// A rule and a pool, both accepted; or a template that its parameters fill, and a pool.
 pub struct Evaluation<'a> {
     pub entries: &'a [Entry],
+    /// None for a rule.
+    pub parameters: &'a [u32],
     pub rows: &'a [Row],
 }
 
 impl Evaluation<'_> {
+    pub fn of_rule<'a>(entries: &'a [Entry], rows: &'a [Row]) -> Evaluation<'a> {
+        Evaluation { entries, parameters: &[], rows }
+    }
+
     /// The verdict of an entry. `bound` holds the row of each variable that is bound there.
     pub fn verdict(&self, entry: usize, bound: &mut Vec<usize>) -> bool {
         match self.entries[entry] {
@@ -34,7 +40,9 @@ impl Evaluation<'_> {
                 Some(_) => !quantifier.every,
                 None => quantifier.every,
             },
-            Entry::Comparison(comparison) => comparison.holds(|variable| self.rows[bound[variable]].value),
+            Entry::Comparison(comparison) => {
+                comparison.holds(|variable| self.rows[bound[variable]].value, self.parameters)
+            }
         }
     }
 

@@ -10,6 +10,8 @@ pub use lower::*;
 pub use parts::*;
 #[cfg(feature = "sets")]
 pub use sets::*;
+#[cfg(feature = "templates")]
+pub use templates::*;
 #[cfg(feature = "trial")]
 pub use trial::*;
 
@@ -273,5 +275,25 @@ mod trial {
     fn is_left(left: &Tried, table: &Lent<u32>, verdicts: &Lent<u8>, bytes: &[u8]) -> bool {
         let past = &bytes[left.verdicts.len()..];
         table.starts_with(&words_of(&left.rows)) && verdicts.holds(&[&left.verdicts, past].concat())
+    }
+}
+
+#[cfg(feature = "templates")]
+mod templates {
+    use crate::compare::{Case, Lent};
+    use crate::generate::Filling;
+    use crate::{checker, ffi};
+
+    pub fn fill(case: &mut Case, filling: &Filling, output: &[u32]) {
+        let Filling { template, parameters } = filling;
+        let mut after = output.to_vec();
+        let expected = checker::fill(template, parameters, &mut after);
+        let (lent_template, lent_parameters) = (Lent::of(template), Lent::of(parameters));
+        let mut rule = Lent::of(output);
+        let found = ffi::fill(lent_template.get(), lent_parameters.get(), rule.get_mut());
+        let kept = lent_template.holds(template) && lent_parameters.holds(parameters);
+        case.compared(expected == found && kept && rule.holds(&after), expected, || {
+            format!("fill {filling:?} {output:?}: {expected:?} {after:?}, found {found:?} {:?}", rule.get())
+        });
     }
 }

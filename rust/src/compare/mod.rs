@@ -2,6 +2,7 @@
 
 pub mod calls;
 pub mod each_call;
+pub mod fillings;
 mod lent;
 pub mod refused_step;
 pub mod steps;
@@ -99,6 +100,6 @@ mod tests {
     #[test]
     #[should_panic(expected = "GABZERIL_SEED=7: answered by both sides")]
     fn a_number_that_is_not_used_fails() {
-        both_sides_answer(22);
+        both_sides_answer(27);
     }
 }

@@ -14,6 +14,7 @@ mod damaged_plan;
 mod damaged_rule;
 mod damaged_set;
 mod damaged_table;
+mod damaged_template;
 mod depths;
 mod digits;
 mod far_sets;
@@ -24,6 +25,7 @@ mod lengths;
 mod library_hash;
 mod nested;
 mod order_of_words;
+mod other_fillers;
 mod other_markings;
 #[cfg(test)]
 mod plan_tests;
@@ -35,6 +37,9 @@ mod rules;
 mod sets;
 mod spelled_out;
 mod steps;
+#[cfg(test)]
+mod template_tests;
+mod templates;
 #[cfg(test)]
 mod tests;
 mod together;
@@ -52,6 +57,7 @@ pub use damaged_plan::{any_steps, damaged_plan, with_added_row, with_faulty_step
 pub use damaged_rule::{any_rule, damage_rule, damaged_rule, RULE_FAULTS};
 pub use damaged_set::{damage_set, damaged_set, SetFault, SET_FAULTS};
 pub use damaged_table::{any_table, damage_table, damaged_table, TABLE_FAULTS};
+pub use damaged_template::{damage_filling, damaged_filling, TemplateFault, TEMPLATE_FAULTS};
 pub use digits::{
     any_number, ends_of_digits, ends_of_values, number_up_to, renumbered_rule, renumbered_table, width_of,
 };
@@ -66,6 +72,7 @@ pub use nested::{nested_rule, NestedRule};
 pub use order_of_words::{
     other_marks, other_part, other_trial, other_verdict, other_verdicts, OTHER_TRIAL, OTHER_VERDICT,
 };
+pub use other_fillers::{blanks_would_pass, OtherFiller};
 pub use other_markings::OtherMarking;
 pub use plans::{plan, plan_on_a_full_table, plan_on_colliding_rows, Plan, PlanLimit};
 pub use pools::{pool, pool_of, PoolShape};
@@ -74,6 +81,10 @@ pub use rooms::{any_room, enough_room, short_room};
 pub use rules::{rule, rule_of, RuleShape};
 pub use sets::{set, set_and_devices, set_and_devices_or_roots, set_and_pool, set_and_roots, Set};
 pub use spelled_out::spelled_out;
+pub use templates::{
+    any_filling, comparisons, filling, filling_and_pool, filling_of_many, loose_filling, parameter,
+    turned_by_others, values_of, Filling,
+};
 pub use together::{
     any_names_and_devices, damaged_together, deep_rows, nested_rule_and_table, rule_and_any_names,
     rule_and_deep_rows, rule_and_devices, rule_and_pool, rule_and_roots, rule_and_siblings, rule_and_signs,

@@ -46,7 +46,7 @@ fn marks_of(
     marks: &mut [u8],
 ) -> Result<usize, Refusal> {
     let (entries, rows) = (accepted_rule(rule)?, accepted_table(pool)?);
-    let evaluation = Evaluation { entries: &entries, rows: &rows };
+    let evaluation = Evaluation::of_rule(&entries, &rows);
     let verdict = evaluation.verdict(0, &mut vec![]);
     let marks = &mut marks[..rows.len()];
     marks.fill(0);

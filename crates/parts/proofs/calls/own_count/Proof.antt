@@ -2,6 +2,7 @@
 use mathlib.Core.Path.{refl}
 use native.Mathlib.Omega.{arith}
 use denote.Ref.{now}
+use Rattle.tables.specs.Rules.{toConstant}
 use Rattle.tables.proofs.AcceptedRule.{few-entries}
 use Rattle.parts.proofs.calls.own_count.Statement.{statement}
 use Rattle.parts.proofs.calls.own_count.Tie as tie
@@ -10,4 +11,4 @@ pub own-count-spec : {M : Type 1} → statement M
 own-count-spec = tie.close (tie.spec
     (λ c. omega (arith, c .if1 .taken))
     (λ c ok. refl)
-    (λ c ok. absurd (omega (arith, few-entries (now (c .before .args .rule)) ok, c .if1 .left))))
+    (λ c ok. absurd (omega (arith, few-entries toConstant (now (c .before .args .rule)) ok, c .if1 .left))))

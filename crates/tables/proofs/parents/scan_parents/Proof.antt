@@ -2,10 +2,9 @@
 use Prim.Native.Nat.{_-_}
 use mathlib.Core.Path.{sym, _∙_}
 use native.Mathlib.Omega.{arith}
-use Rattle.base.proofs.Search.{Passed, begin, miss, some-at}
+use Rattle.base.proofs.Search.{Passed, begin, miss, some-at, found-none}
 use Rattle.tables.specs.Words.{rowAt}
 use Rattle.tables.specs.Links.{fitsParent}
-use Rattle.tables.proofs.Scanned.{scan-end}
 use Rattle.tables.proofs.parents.scan_parents.Statement.{statement}
 use Rattle.tables.proofs.parents.scan_parents.Tie as tie
 
@@ -28,4 +27,4 @@ scan-parents-spec = tie.close (tie.spec
     let fits-parent-at = c .before .fits-parent-at in
     let if1 = c .if1 in
     miss _ _ _ (loop .inv) (loop-test .taken) (sym (fits-parent-at .ensures) ∙ if1 .left))
-    (λ c. scan-end _ _ _ (c .before .loop .inv) (c .loop-test .left)))
+    (λ c. found-none _ _ _ (c .before .loop .inv) (c .loop-test .left)))

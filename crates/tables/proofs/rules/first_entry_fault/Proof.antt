@@ -9,8 +9,8 @@ use Rattle.tables.proofs.rules.first_entry_fault.Tie as tie
 
 pub first-entry-fault-spec : {M : Type 1} → statement M
 first-entry-fault-spec = tie.close (tie.spec
-    (λ rule n number i₀ i. Passed (entryFault rule number) n i)
-    (λ rule n number i₀ i. n - i)
+    (λ most rule n number i₀ i. Passed (entryFault most rule number) n i)
+    (λ most rule n number i₀ i. n - i)
     (λ c. begin _ _)
     (λ c κs. (c .before .before .before .pre .0, c .before .before .before .pre .1, c .loop-test .taken))
     (λ c. hit _ _ _ (c .before .before .before .loop .inv) (c .before .before .loop-test .taken) (sym (c .before .entry-fault .ensures) ∙ c .if1 .taken))

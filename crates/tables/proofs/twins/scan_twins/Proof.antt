@@ -2,10 +2,9 @@
 use Prim.Native.Nat.{_-_}
 use mathlib.Core.Path.{sym, _∙_}
 use native.Mathlib.Omega.{arith}
-use Rattle.base.proofs.Search.{Passed, begin, miss, some-at}
+use Rattle.base.proofs.Search.{Passed, begin, miss, some-at, found-none}
 use Rattle.tables.specs.Words.{rowAt}
 use Rattle.tables.specs.Tables.{isTwin}
-use Rattle.tables.proofs.Scanned.{scan-end}
 use Rattle.tables.proofs.twins.scan_twins.Statement.{statement}
 use Rattle.tables.proofs.twins.scan_twins.Tie as tie
 
@@ -19,4 +18,4 @@ scan-twins-spec = tie.close (tie.spec
     (λ c. omega (arith, c .before .before .loop-test .taken))
     (λ c. omega (arith, c .before .before .loop-test .taken))
     (λ c. miss _ _ _ (c .before .before .before .loop .inv) (c .before .before .loop-test .taken) (sym (c .before .is-twin-at .ensures) ∙ c .if1 .left))
-    (λ c. scan-end _ _ _ (c .before .loop .inv) (c .loop-test .left)))
+    (λ c. found-none _ _ _ (c .before .loop .inv) (c .loop-test .left)))

@@ -1,0 +1,5 @@
+pub mod Filling
+pub mod Answers
+pub mod Exactly
+pub mod Alike
+pub mod Ordinary
