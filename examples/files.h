@@ -35,13 +35,13 @@ char **behind_dashes(char **arguments);
  * 20, no rules, names the set, as there is no file. */
 void load_set(char **paths, struct set *set);
 
-/* Writes a rule as a rule file, a table as a pool file, or to standard output if `path` is NULL. Each ends the program if
- * that fails. */
+/* Write a rule as a rule file, and a table as a pool file, to `path`, or to standard output if it is NULL. Each ends the
+ * program if that fails. */
 void save_rule(const char *path, const uint32_t *rule, size_t rule_length);
 void save_pool(const char *path, const uint32_t *table, size_t table_length);
 
-/* The word of a decimal number without leading zeros: of a value or constant, which is below zero with a minus sign, or of
- * any other number. 0 if the text is no such number; zero has no sign. */
+/* Puts the word of a decimal number without leading zeros into `word` and returns 1; returns 0 if the text is no such number.
+ * With `is_value` it is -2147483648 to 2147483647, with a minus sign below zero, and -0 is none; else 0 to 4294967295. */
 int read_number(const char *text, int is_value, uint32_t *word);
 
 /* The value of an accepted answer. A refused one is printed and ends the program; `subject` is what was

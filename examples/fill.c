@@ -11,8 +11,8 @@
  * device/at. If something is refused, nothing is written, and the status is 1. A parameter too few is 21 at the entry
  * that asks for it, one too many is 22.
  *
- * house-template.txt, with the names of the manual and 10 for a VLAN: on every device some interface has the VLAN of
- * the site, parameter 0; no interface has another; and none receives less than the site's threshold in dBm, parameter 1.
+ * house-template.txt, with the names of the manual: on every device some interface has the VLAN of the site, parameter
+ * 0; no interface has another; and none receives less than the site's threshold in dBm, parameter 1.
  */
 #include "files.h"
 

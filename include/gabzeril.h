@@ -216,8 +216,8 @@ gabzeril_answer gabzeril_check_rule(const uint32_t *rule, size_t rule_length);
  *
  * Refusals 1 to 7 of the template, where 3 allows blanks, with any c; 21 at the first blank whose number has no
  * parameter; 22, place 0, if there are more than GABZERIL_PARAMETER_LIMIT parameters or one whose number no blank
- * has; 17 if `rule`, another buffer than the template's, is shorter than it. Value: the number of words written, as
- * many as the template has.
+ * has, so that only numbers from 0 on without a gap, below the limit, can be filled; 17 if `rule` is shorter than
+ * the template; it must be another buffer. Value: the number of words written, as many as the template has.
  *
  * Every other call that checks a rule refuses a blank with 3, gabzeril_write_rule too; gabzeril_read_rule does not
  * check, and reads a template's file. */
