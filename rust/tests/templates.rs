@@ -265,13 +265,13 @@ fn other_fillers() {
         calls::fill(case, &filling, &output);
         let mut rule = output.clone();
         let answer = ffi::fill(&filling.template, &filling.parameters, &mut rule);
-        for other in OtherFiller::ALL {
+        for &other in OtherFiller::ALL {
             let mut others = output.clone();
             let same = other.fill(&filling, &mut others) == answer && others == rule;
             case.note_met([(!same, &told_apart(other))]);
         }
     });
-    for other in OtherFiller::ALL {
+    for &other in OtherFiller::ALL {
         tally.saw_noted(&told_apart(other), 250);
     }
 }

@@ -27,12 +27,20 @@ fn is_blank(template: &[u32], i: usize) -> bool
     ((7 <= kind) & (kind <= 9)) & (template[ENTRY_WORDS * i + B] == TO_PARAMETER)
 }
 
+// c of entry i: of a blank, its parameter number.
+fn number_at(template: &[u32], i: usize) -> usize
+    requires { ⌜ i < entryCount (now template) ⌝ }
+    ensures { λ o. ⌜ o ≡ entryAt (now (template .entry)) i .c ⌝ }
+{
+    template[ENTRY_WORDS * i + C] as usize
+}
+
 // Whether entry i is a blank whose number has no parameter, where so many are given.
 fn lacks_parameter(template: &[u32], count: usize, i: usize) -> bool
     requires { ⌜ i < entryCount (now template) ⌝ }
     ensures { λ o. ⌜ o ≡ lacksParameter (now (template .entry)) count i ⌝ }
 {
-    is_blank(template, i) & (count <= template[ENTRY_WORDS * i + C] as usize)
+    is_blank(template, i) & (count <= number_at(template, i))
 }
 
 // The first such entry, or the number of entries.
@@ -55,7 +63,7 @@ fn has_number(template: &[u32], p: usize, i: usize) -> bool
     requires { ⌜ i < entryCount (now template) ⌝ }
     ensures { λ o. ⌜ o ≡ hasNumber (now (template .entry)) p i ⌝ }
 {
-    is_blank(template, i) & (template[ENTRY_WORDS * i + C] as usize == p)
+    is_blank(template, i) & (number_at(template, i) == p)
 }
 
 // Whether parameter p is used.

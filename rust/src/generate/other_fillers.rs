@@ -4,8 +4,21 @@ use super::templates::Filling;
 use crate::answer::{Answer, Refusal};
 use crate::checker::{accepted_rule, accepted_template, is_blank, ENTRY_WORDS, LEAST_VALUE, MOST_PARAMETERS};
 
-#[derive(Clone, Copy, Debug, PartialEq, Eq)]
-pub enum OtherFiller {
+/// The variants, and all of them in a list.
+macro_rules! other_fillers {
+    ($($(#[$about:meta])* $filler:ident,)*) => {
+        #[derive(Clone, Copy, Debug, PartialEq, Eq)]
+        pub enum OtherFiller {
+            $($(#[$about])* $filler,)*
+        }
+
+        impl OtherFiller {
+            pub const ALL: &[OtherFiller] = &[$(OtherFiller::$filler,)*];
+        }
+    };
+}
+
+other_fillers! {
     // What is a blank.
     /// b = 2 of a quantifier, which tells the variable of the parent.
     QuantifiersToo,
@@ -76,43 +89,6 @@ pub enum OtherFiller {
 use OtherFiller::*;
 
 impl OtherFiller {
-    pub const ALL: [OtherFiller; 34] = [
-        QuantifiersToo,
-        ConnectivesToo,
-        ConstantsToo,
-        VariablesToo,
-        EqualAlone,
-        NumberStays,
-        BStays,
-        FirstBlankAlone,
-        BlanksAlone,
-        CountedFromOne,
-        InOrderOfEntries,
-        NumberModulo16,
-        ClearsWhatLiesPast,
-        EntriesAsValue,
-        WritesThoughRefused,
-        UnusedFirst,
-        MissingFirst,
-        ShortFirst,
-        LastPlace,
-        PlaceOfUnused,
-        UsedUpToLargest,
-        UsedByCount,
-        UsedByAnyEntry,
-        SharedRefused,
-        SixteenBlanks,
-        UnusedAllowed,
-        SeventeenAllowed,
-        SixteenRefused,
-        NumbersTo15,
-        NumbersAreVariables,
-        LeftSideFree,
-        ThreePasses,
-        CopiedWithoutParameters,
-        NoneBelowZero,
-    ];
-
     /// As `checker::fill`.
     pub fn fill(self, filling: &Filling, rule: &mut [u32]) -> Answer {
         fill_of(Some(self), filling, rule)

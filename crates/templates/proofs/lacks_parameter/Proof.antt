@@ -1,22 +1,14 @@
 -- `templates::lacks_parameter` meets its contract. Assumes nothing.
-use Prim.Native.Nat.{_+_, _*_}
-use mathlib.Core.Path.{ap}
+use Prim.Native.Nat.{ℕ}
+use mathlib.Core.Path.{ap₂}
 use mathlib.Core.Bool.{Bool, _&&_}
-use native.Mathlib.Omega.{arith}
 use lib.Dec.{leb}
-use denote.Ref.{now}
 use borrow.Author.Needs.{needs}
-use Rattle.tables.specs.Words.{entryWords, entryAt}
 use Rattle.templates.proofs.lacks_parameter.Statement.{statement}
 use Rattle.templates.proofs.lacks_parameter.Tie as tie
 
 pub lacks-parameter-spec : {M : Type 1} → statement M
 lacks-parameter-spec = tie.close (tie.spec
     (λ c κs. search needs)
-    (λ c. search needs)
-    (λ c. search needs)
-    (λ c. search needs)
-    (λ c. search needs)
-    (λ c. let s = c .before .before .before in omega (arith, c .shared-slice-known2 .given (entryWords * s .args .i + 3)))
-    (λ c. let s = c .before .before .before in
-    ap (λ (b : Bool). b && leb (s .args .count) (entryAt (now (s .args .template)) (s .args .i) .c)) (c .before .is-blank .ensures)))
+    (λ c κs. search needs)
+    (λ c. ap₂ (λ (b : Bool) (n : ℕ). b && leb (c .before .before .before .args .count) n) (c .before .is-blank .ensures) (c .number-at .ensures)))
