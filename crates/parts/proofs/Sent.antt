@@ -9,6 +9,7 @@ use lib.ListN.{length, getD, set, length-append}
 use lib.Seq.{sets, length-sets}
 use lib.Dec.{eqb}
 use borrow.Author.Tests.{eq-eqb, ne-eqb}
+use Rattle.base.proofs.Copies.{sets-append}
 use Rattle.base.specs.Lists.{put, select, when, all}
 use Rattle.base.specs.Search.{sumBelow}
 use Rattle.base.proofs.Lists.{concatMap-append, select-all}
@@ -16,7 +17,6 @@ use Rattle.base.proofs.Sums.{sum-same}
 use Rattle.tables.specs.Words.{rowWords, rowAt, rowCount, rowsFrom, rows}
 use Rattle.tables.specs.Rules.{one}
 use Rattle.tables.specs.declared.Row.{Row}
-use Rattle.tables.proofs.Writes.{sets-append}
 use Rattle.logic.specs.Formulas.{Formula}
 use Rattle.logic.specs.Parts.{reachedByAny, spareForEach, ancestors, partBy, branchPart, fullPart, partOf, wordsOf}
 use Rattle.logic.proofs.Walks.{select-halves}

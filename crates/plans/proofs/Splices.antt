@@ -8,6 +8,7 @@ use lib.ListN.{length, take, drop, length-append, length-drop}
 use lib.Seq.{sets, sets-eq, length-take-le, take-all}
 use lib.Dec.{ltb, leb}
 use borrow.Author.Tests.{le-leb, lt-leb, leb-true, ltb-true, eq-eqb, ne-eqb, not-true}
+use Rattle.base.proofs.Copies.{sets-append}
 use Rattle.base.proofs.Bools.{and-left, and-right}
 use Rattle.base.proofs.Search.{first-le}
 use Rattle.tables.specs.Answers.{isDone, value, andThen, unless, fitting, output}
@@ -16,7 +17,6 @@ use Rattle.tables.specs.Tables.{isAbove}
 use Rattle.tables.specs.declared.Row.{Row}
 use Rattle.tables.specs.declared.Answer.{Answer}
 use Rattle.tables.specs.declared.Answer.the-variants.{Done, Refused}
-use Rattle.tables.proofs.Writes.{sets-append}
 use Rattle.tables.proofs.Answers.{unless-ok, unless-next, unless-passed}
 use Rattle.plans.specs.Plans.{stepWords, kindOf, setting, adding, removing, isStep, stepRow, placeFor, isThere, hasUnder, stepPlace, withValue, afterSet, afterAdd, afterRemove, tableAfter, changed, changeOut}
 use Rattle.plans.specs.Changing.{spliced, StepPlaced}

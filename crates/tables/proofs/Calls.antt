@@ -21,7 +21,7 @@ fitted : (checked : Answer) (result : List ℕ) (room : ℕ) → isDone checked 
 fitted checked result room ok h = andThen-passed checked (fitting result room) ok ∙ unless-passed (leb (length result) room) 17 (Done (length result)) (le-leb _ _ h)
 
 -- what it leaves in the output, up to the answer
-left : (answer : Answer) (result out : List ℕ) → answer ≡ Done (length result) → upTo answer (output answer result out) ≡ result
+pub left : (answer : Answer) (result out : List ℕ) → answer ≡ Done (length result) → upTo answer (output answer result out) ≡ result
 left answer result out e = rw e (take-at result (drop (length result) out) (length result) refl)
 
 module _ (names : List ℕ) (f : Format) (checked : Answer) (ws : List ℕ) (ok : isDone checked ≡ true) where

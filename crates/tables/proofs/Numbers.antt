@@ -6,12 +6,12 @@ use native.Mathlib.Nat.{le-trans, zero-mul, add-mul, mul-assoc, mul-left-comm, l
 use native.Mathlib.Omega.{arith}
 use lib.ListN.{length, set, length-append}
 use lib.Seq.{sets, length-sets}
+use Rattle.base.proofs.Copies.{sets-append}
 use Rattle.powers.specs.Powers.{wordDigits, powerAt}
 use Rattle.powers.proofs.Powers.{power-is}
 use Rattle.tables.specs.Words.{wordLimit}
 use Rattle.tables.specs.Files.{digitByte, withDigit, numberText}
 use Rattle.tables.proofs.Digits.{text-le, text-pos, wide-from, narrow-below, from-wide, below-narrow, soFar, so-far, text-more}
-use Rattle.tables.proofs.Writes.{sets-append}
 
 -- ---- how many digits
 -- w has at least n

@@ -8,10 +8,10 @@ use lib.ListN.{length, drop, length-append}
 use lib.Seq.{sets, sets-eq}
 use lib.Dec.{leb}
 use borrow.Author.Tests.{le-leb, lt-leb, leb-true, leb-false, not-true, not-false}
+use Rattle.base.proofs.Copies.{sets-append}
 use Rattle.tables.specs.declared.Answer.{Answer}
 use Rattle.tables.specs.declared.Answer.the-variants.{Done, Refused}
 use Rattle.tables.specs.Files.{Format, linesText, writeText, writeAnswer, writeOut}
-use Rattle.tables.proofs.Writes.{sets-append}
 
 -- what the test of the room says
 pub too-long : (f : Format) (ws : List ℕ) (room : ℕ) (r : Bool) → r ≡ leb (length (linesText f ws)) room → not r ≡ true → room < length (linesText f ws)

@@ -1,5 +1,5 @@
 -- The loops that write a file. Each invariant says that what is left to do, done, gives the whole. Assumes nothing.
-use Prim.Native.Nat.{ℕ, suc, _+_, _≤_, _<_}
+use Prim.Native.Nat.{ℕ, _+_, _≤_, _<_}
 use mathlib.Core.Path.{_≡_, refl, sym, ap, _∙_}
 use mathlib.Core.Bool.{Bool, true, false, _&&_}
 use mathlib.Core.List.{List, [], _∷_, _++_}
@@ -10,14 +10,10 @@ use lib.ListN.{length, getD, drop, set, length-set, drop-of-length-le}
 use lib.Seq.{sets, length-sets}
 use borrow.Author.Tests.{ltb-true}
 use Rattle.base.proofs.Bools.{and-right}
+use Rattle.base.proofs.Copies.{sets-append}
 use Rattle.tables.specs.Values.{valueLimit, isBelowZero, opposite}
 use Rattle.tables.specs.Files.{Format, byteAfter, nextColumn, toldNext, maySign, minusByte, numberText, wordText, textFrom, linesText}
 use Rattle.tables.proofs.Measures.{next-text, next-length}
-
--- ---- runs of stores
-pub sets-append : (l : List ℕ) (i : ℕ) (a b : List ℕ) → sets l i (a ++ b) ≡ sets (sets l i a) (i + length a) b
-sets-append l i [] b = ap (λ (n : ℕ). sets l n b) (sym (add-zero i))
-sets-append l i (x ∷ a) b = sets-append (set l i x) (suc i) a b ∙ ap (λ (n : ℕ). sets (sets (set l i x) (suc i) a) n b) (omega arith)
 
 -- ---- one word: with its sign, or without
 module _ (signed : Bool) (w : ℕ) where

@@ -23,6 +23,10 @@ word k ws i c = getD ws (k * i + c) 0
 abbrev pub whole : ℕ → List ℕ → Bool
 whole k ws = eqb (length ws % k) 0
 
+-- how many whole lines it has
+abbrev pub lineCount : ℕ → List ℕ → ℕ
+lineCount k ws = length ws / k
+
 -- device, at and name are 1 to 65,535
 abbrev pub notIdentifier : ℕ → Bool
 notIdentifier x = ltb x 1 || ltb 65535 x
@@ -47,7 +51,7 @@ columnsOf r = r .device ∷ r .at ∷ r .up ∷ r .deep ∷ r .name ∷ r .value
 
 -- the number of whole rows
 abbrev pub rowCount : List ℕ → ℕ
-rowCount t = length t / rowWords
+rowCount t = lineCount rowWords t
 
 -- n rows from row i on
 unfoldable pub rowsFrom : List ℕ → ℕ → ℕ → List Row
@@ -75,4 +79,4 @@ abbrev pub entryColumns : Entry → List ℕ
 entryColumns e = e .kind ∷ e .a ∷ e .b ∷ e .c ∷ []
 
 abbrev pub entryCount : List ℕ → ℕ
-entryCount r = length r / entryWords
+entryCount r = lineCount entryWords r
