@@ -1,14 +1,14 @@
 # The library for C programs, the program, their installation and what uses them.
 #
-#   make                      prove the library and copy its archive to build/libgabzeril.a
+#   make                      prove the library and copy it to build/libgabzeril.a
 #   make demo                 prove and build the program, and run it on case-f of samples/
 #   make help                 this list
-#   make install PREFIX=DIR   program, header, archive and pkg-config file
+#   make install PREFIX=DIR   program, header, static library and pkg-config file
 #   make uninstall PREFIX=DIR remove them
-#   make examples             build examples/ against the archive
+#   make examples             build examples/ against the library
 #   make check-examples       the same with sanitizers, run and compared
 #   make check-samples        the program on samples/
-#   make check-hostile        damaged files, values, sets, plans and templates through the C interface (CASES=100000 SEED=1)
+#   make check-hostile        damaged files, values, sets, plans, templates and columns through the C interface (CASES=100000 SEED=1)
 #   make clean                remove build/; target/ belongs to rt
 
 VERSION := $(shell sed -n 's/^.define GABZERIL_VERSION "\(.*\)"$$/\1/p' include/gabzeril.h)
@@ -27,13 +27,13 @@ SANITIZERS = -g -O1 -fsanitize=address,undefined -fno-sanitize-recover=all
 CASES = 100000
 SEED = 1
 
-# Where rt writes archive and program. Others can be named: they are then taken as they are.
-ARCHIVE = target/staticlib/libentry.a
+# Where rt writes library and program. Others can be named: they are then taken as they are.
+STATICLIB = target/staticlib/libentry.a
 PROGRAM = target/bin/gabzeril
 PROVED := crates.txt $(shell find crates \( -name '*.rt' -o -name '*.antt' \))
 
 LIBRARY = build/libgabzeril.a
-EXAMPLES = switch collector switch_set collector_set plan hide fill
+EXAMPLES = switch collector switch_set collector_set plan hide fill archive
 
 .PHONY: all demo help install uninstall examples sanitized-examples check-examples check-samples check-hostile clean
 
@@ -57,8 +57,8 @@ target/staticlib/libentry.a: $(PROVED) | build
 	@.ci/prove build/library.log rt staticlib entry
 	@touch -c $@
 
-$(LIBRARY): $(ARCHIVE) | build
-	cp $(ARCHIVE) $@
+$(LIBRARY): $(STATICLIB) | build
+	cp $(STATICLIB) $@
 
 # Nothing of build/ is to be committed.
 build:
@@ -95,7 +95,7 @@ build/sanitized/%: examples/%.c examples/files.c examples/files.h include/gabzer
 build/examples/plan build/sanitized/plan: examples/plan_file.c examples/plan_file.h
 
 build/sanitized/hostile: tests-c/hostile.c tests-c/hostile_values.c tests-c/hostile_sets.c tests-c/hostile_trial.c \
-    tests-c/hostile_templates.c tests-c/hostile.h include/gabzeril.h $(LIBRARY)
+    tests-c/hostile_templates.c tests-c/hostile_archive.c tests-c/hostile.h include/gabzeril.h $(LIBRARY)
 	$(CC) $(WARNINGS) $(SANITIZERS) -Iinclude -o $@ $(filter %.c,$^) $(LIBRARY)
 
 check-examples: sanitized-examples

@@ -18,7 +18,7 @@ if [ "${1:-}" = --update ]; then
     exit
 fi
 
-# The archive, then a program that links it.
+# The library, then a program that links it.
 make --no-print-directory -s 1>&2
 CARGO_TARGET_DIR=build/bench cargo build --offline --locked --release --manifest-path bench/Cargo.toml 1>&2
 program=$PWD/build/bench/release/gabzeril-bench
@@ -49,7 +49,7 @@ commit=$(git describe --always --dirty 2> /dev/null || echo unknown)
 echo "Measured $(date -u +%Y-%m-%d), commit $commit, on $(sed -n 's/^model name[^:]*: //p' /proc/cpuinfo | head -n 1)," \
     "$(nproc) cores, load $(cut -d' ' -f1 /proc/loadavg);" \
     "$(rt version), $(rustc --version), $(valgrind --version 2> /dev/null || echo 'no valgrind: no instructions')."
-for part in "asked $counts $before" "times $counts $before" sqlite stack sent; do
+for part in "asked $counts $before" "times $counts $before" sqlite stack sent archive; do
     echo
     # The words of a part are the program's arguments.
     # shellcheck disable=SC2086

@@ -8,14 +8,14 @@ int refused_status = 1;
 
 static uint8_t file[FILE_BYTES];
 
-static size_t load_file(const char *path)
+size_t load_bytes(const char *path, uint8_t bytes[FILE_BYTES])
 {
     FILE *stream = fopen(path, "rb");
     if (stream == NULL) {
         perror(path);
         exit(refused_status);
     }
-    size_t length = fread(file, 1, sizeof file, stream);
+    size_t length = fread(bytes, 1, FILE_BYTES, stream);
     int whole = !ferror(stream) && fgetc(stream) == EOF;
     fclose(stream);
     if (!whole) {
@@ -27,13 +27,13 @@ static size_t load_file(const char *path)
 
 size_t load_rule(const char *path, uint32_t rule[GABZERIL_RULE_WORDS])
 {
-    size_t length = load_file(path);
+    size_t length = load_bytes(path, file);
     return accepted(gabzeril_read_rule(file, length, rule, GABZERIL_RULE_WORDS), path);
 }
 
 size_t load_pool(const char *path, uint32_t table[GABZERIL_TABLE_WORDS])
 {
-    size_t length = load_file(path);
+    size_t length = load_bytes(path, file);
     return accepted(gabzeril_read_pool(file, length, table, GABZERIL_TABLE_WORDS), path);
 }
 
@@ -100,16 +100,24 @@ void load_set(char **paths, struct set *set)
     check_set(set, paths);
 }
 
+static const char *name_of(const char *path)
+{
+    return path == NULL ? "standard output" : path;
+}
+
+void save_bytes(const char *path, const uint8_t *bytes, size_t length)
+{
+    FILE *stream = path == NULL ? stdout : fopen(path, "wb");
+    if (stream == NULL || fwrite(bytes, 1, length, stream) != length || fclose(stream) != 0) {
+        perror(name_of(path));
+        exit(refused_status);
+    }
+}
+
 /* What is written, so many bytes of `file`. */
 static void save_file(const char *path, gabzeril_answer written)
 {
-    const char *name = path == NULL ? "standard output" : path;
-    size_t length = accepted(written, name);
-    FILE *stream = path == NULL ? stdout : fopen(path, "wb");
-    if (stream == NULL || fwrite(file, 1, length, stream) != length || fclose(stream) != 0) {
-        perror(name);
-        exit(refused_status);
-    }
+    save_bytes(path, file, accepted(written, name_of(path)));
 }
 
 void save_rule(const char *path, const uint32_t *rule, size_t rule_length)

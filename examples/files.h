@@ -19,6 +19,10 @@ struct set {
  * sets another. */
 extern int refused_status;
 
+/* The bytes of any file that has at most FILE_BYTES; returns how many. It ends the program if the file cannot be read or is
+ * longer. */
+size_t load_bytes(const char *path, uint8_t bytes[FILE_BYTES]);
+
 /* The words of a rule file and of a pool file. Each ends the program if the file cannot be read. */
 size_t load_rule(const char *path, uint32_t rule[GABZERIL_RULE_WORDS]);
 size_t load_pool(const char *path, uint32_t table[GABZERIL_TABLE_WORDS]);
@@ -35,8 +39,9 @@ char **behind_dashes(char **arguments);
  * 20, no rules, names the set, as there is no file. */
 void load_set(char **paths, struct set *set);
 
-/* Write a rule as a rule file, and a table as a pool file, to `path`, or to standard output if it is NULL. Each ends the
- * program if that fails. */
+/* Write so many bytes, a rule as a rule file, and a table as a pool file, to `path`, or to standard output if it is NULL.
+ * Each ends the program if that fails. */
+void save_bytes(const char *path, const uint8_t *bytes, size_t length);
 void save_rule(const char *path, const uint32_t *rule, size_t rule_length);
 void save_pool(const char *path, const uint32_t *table, size_t table_length);
 

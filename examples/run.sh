@@ -16,9 +16,13 @@
 # accepted, on three pools: the collector's verdict on what hide wrote is the one before, marked rows and all columns but
 # the value are as they came, and hiding once more, with the same rows marked, gives the same file.
 #
-# Last, templates: house-template.txt is filled for two sites, and what fill prints and writes is compared with
+# Then templates: house-template.txt is filled for two sites, and what fill prints and writes is compared with
 # `expected-fill`. Every rule of samples/ that is accepted comes back, byte for byte, when its constants are made blanks by
 # hand and filled in again; so it does, without parameters, as it is.
+#
+# Last, the archive: what archive prints and writes is compared with `expected-archive`, whose columns are worked out by
+# hand. Every pool of examples/ and samples/ that is accepted is packed to the bytes that awk finds, and comes back byte for
+# byte; every other is refused, and nothing is written.
 #
 #   examples/run.sh [PROGRAMS]   the folder of the built programs; without it they are built with sanitizers
 set -eu
@@ -370,15 +374,21 @@ checksums > found-after
 same "plans" "$here/expected-plan" found
 same "files after wrong arguments of plan" found-before found-after
 
-# What a program prints in the folder above this one must stand in the manual, indented.
-shown_in_manual() { # name program argument...
-    (cd "$here/.." && run "$programs/$2" "${@:3}") | sed -e '/^exit status/d' -e 's/./    &/' > found
+# The lines of `found` must stand in the manual, indented.
+in_manual() { # what they are
+    sed -i 's/./    &/' found
     if [[ $(< "$here/../docs/MANUAL.md") == *"$(< found)"* ]]; then
         passed=$((passed + 1))
     else
         failed=$((failed + 1))
-        echo "not in the manual: what $2 prints for $1"
+        echo "not in the manual: $1"
     fi
+}
+
+# So must what a program prints in the folder above this one.
+shown_in_manual() { # name program argument...
+    (cd "$here/.." && run "$programs/$2" "${@:3}") | sed '/^exit status/d' > found
+    in_manual "what $2 prints for $1"
 }
 
 for plan in plan-move plan-remove; do
@@ -724,6 +734,199 @@ if [ "$comes_back" -ge 20 ]; then
 else
     failed=$((failed + 1))
     echo "constants were filled in only $comes_back times"
+fi
+
+# The archive. wrong.txt, full.txt, none.txt, taken.txt and equal-roots.txt are made above.
+
+# The bytes of a file of columns: a column a line, a word as its four bytes.
+columns_in() { # file
+    local size
+    size=$(wc -c < "$1")
+    echo "bytes $size"
+    [ "$size" -eq 0 ] || od -An -v -tx1 -w$((size / 6)) "$1" | sed -e 's/ \(..\) \(..\) \(..\) \(..\)/ \1\2\3\4/g' -e 's/^ //'
+}
+
+# What is printed, and the columns that are written.
+pack() { # pool
+    rm -f columns.bin
+    run "$programs/archive" pack "$1" columns.bin
+    [ ! -e columns.bin ] || columns_in columns.bin
+}
+
+# What is printed, and the pool that is written.
+unpack() { # columns
+    rm -f unpacked.txt
+    run "$programs/archive" unpack "$1" unpacked.txt
+    [ ! -e unpacked.txt ] || cat unpacked.txt
+}
+
+# So many bytes 0.
+zeros() { # bytes
+    head -c "$1" /dev/zero
+}
+
+# Words below 256 as bytes.
+words() { # word...
+    printf '%b' "$(printf '\\x%x\\0\\0\\0' "$@")"
+}
+
+unpack_words() { # word...
+    words "$@" > wrong.bin
+    unpack wrong.bin
+}
+
+# The columns of so many roots, whose numbers and values are 1, 2, 3 and so on.
+roots_in_columns() { # rows
+    local once every none
+    mapfile -t once < <(echo 1 && yes 0 | head -n $(($1 - 1)))
+    mapfile -t every < <(yes 1 | head -n "$1")
+    mapfile -t none < <(yes 0 | head -n "$1")
+    words "${once[@]}" "${every[@]}" "${none[@]}" "${none[@]}" "${once[@]}" "${every[@]}"
+}
+
+accepted_archives() {
+    echo "two switches, values below zero"
+    pack optics.txt
+    echo "words that take all four bytes, and differences that wrap"
+    pack wide.txt
+    echo "one row, and no rows"
+    pack one-row.txt
+    pack none.txt
+    echo "columns made by hand: two rows, and none"
+    { words 3 0 7 2 0 7 0 1 1 && printf '\1\1\0\0\350\377\377\377\30\0\0\200'; } > by-hand.bin
+    unpack by-hand.bin
+    : > by-hand.bin
+    unpack by-hand.bin
+    echo "as many rows as a table may have"
+    roots_in_columns 1024 > by-hand.bin
+    unpack by-hand.bin | sed '4,1024d'
+}
+
+refused_archives() {
+    echo "a refused pool"
+    pack equal-roots.txt
+    pack wrong.txt
+    pack rules/some-device.txt
+    pack deep.txt
+    pack over.txt
+    echo "columns that are not whole words"
+    for size in 1 2 3 23 25 313 42013; do
+        zeros "$size" > wrong.bin
+        unpack wrong.bin
+    done
+    echo "columns that are not whole rows"
+    for size in 4 20 28 24572 42012; do
+        zeros "$size" > wrong.bin
+        unpack wrong.bin
+    done
+    echo "whole rows that are no table: no device, a row twice, no parent, a wrong depth, equal siblings"
+    unpack_words 0 0 0 0 0 0
+    unpack_words 1 0 1 0 0 0 0 0 1 0 1 1
+    unpack_words 1 0 1 1 0 7 0 1 1 0 1 0
+    unpack_words 1 0 1 1 0 1 0 0 1 0 1 0
+    unpack_words 1 0 1 1 0 0 0 0 1 0 1 0
+    echo "a row more than a table may have"
+    roots_in_columns 1025 > wrong.bin
+    unpack wrong.bin
+    echo "a pool file in the place of columns: 194 bytes, and 120, whole rows by chance"
+    unpack pool.txt
+    unpack wide.txt
+}
+
+misused_archive() {
+    echo "archive, wrong arguments"
+    misused archive
+    misused archive pack
+    misused archive pack pool.txt
+    misused archive pack pool.txt columns.bin unpacked.txt
+    misused archive unpack columns.bin
+    misused archive pool.txt columns.bin
+    misused archive PACK pool.txt columns.bin
+    misused archive '' pool.txt columns.bin
+    misused archive packed pool.txt columns.bin
+    echo "archive, other files"
+    misused archive pack no-such-file.txt columns.bin
+    misused archive unpack no-such-file.bin unpacked.txt
+    misused archive pack pool.txt no-such-folder/columns.bin
+    misused archive unpack columns.bin no-such-folder/unpacked.txt
+    misused archive pack pool.txt rules
+    misused archive unpack rules unpacked.txt
+    misused archive unpack long.bin unpacked.txt
+    echo "archive, refused where there is a file already"
+    misused archive pack equal-roots.txt columns.bin
+    misused archive unpack odd.bin unpacked.txt
+    misused archive unpack wrong.bin unpacked.txt
+    echo "archive, the files exchanged"
+    misused archive pack columns.bin pool.txt
+    misused archive unpack pool.txt columns.bin
+}
+
+pool_of '1 1 0 0 1 16909060' '1 2 1 1 258 2147483647' '1 3 1 1 258 -2147483648' '65535 65535 0 0 65535 -1' > wide.txt
+pool_of '7 3 0 0 2 -24' > one-row.txt
+pool_of '1 1 0 0 1 11' '1 2 1 2 2 1' > deep.txt
+{ cat full.txt; echo '1 1025 0 0 1 1025'; } > over.txt
+{ accepted_archives; refused_archives; } > found
+"$programs/archive" pack optics.txt columns.bin > found-rows
+cp pool.txt unpacked.txt
+zeros 42014 > long.bin
+zeros 25 > odd.bin
+checksums > found-before
+misused_archive >> found
+checksums > found-after
+same "archive" "$here/expected-archive" found
+same "files after wrong arguments of archive" found-before found-after
+od -An -v -td4 -w32 columns.bin > found
+in_manual "the columns of optics.txt"
+
+# The columns of a pool, shown as columns_in shows them.
+columns_by_awk() { # pool
+    awk 'NR > 1 { for (c = 1; c <= 6; c++) value[c, NR - 1] = $c }
+        END {
+            print "bytes", 24 * (NR - 1)
+            for (c = 1; c <= 6 && NR > 1; c++)
+                for (row = 1; row < NR; row++) {
+                    word = row == 1 ? value[c, 1] : value[c, row] - value[c, row - 1]
+                    if (word < 0) word += 4294967296
+                    for (i = 0; i < 4; i++) { printf "%02x", word % 256; word = int(word / 256) }
+                    printf "%s", row + 1 < NR ? " " : "\n"
+                }
+        }' "$1"
+}
+
+archived=0
+check_archive() { # pool
+    local rows
+    rm -f columns.bin unpacked.txt
+    if "$programs/collector" rules/some-device.txt "$1" > found 2>&1; then
+        rows=$(sed 1d "$1" | wc -l)
+        { echo "rows $rows" && columns_by_awk "$1" && echo "rows $rows"; } > whole
+        { pack "$1" && run "$programs/archive" unpack columns.bin unpacked.txt; } > found
+        same "columns of $1" whole found
+        same "$1 packed and unpacked" "$1" unpacked.txt
+        archived=$((archived + 1))
+    else
+        { pack "$1" | sed -n '/: refused, number/!p'; } > found
+        same "$1, which is refused" <(echo "exit status 1") found
+    fi
+}
+
+# A case of samples/ for each of its pools.
+sample_pools() {
+    awk '{ sub(/#.*/, "") } NF && $3 != "-" && !seen[$3]++ { print $1 }' "$here/../samples/cases.txt"
+}
+
+for pool in "$here"/*.txt "$here"/../samples/pools/*.txt full.txt over.txt none.txt taken.txt wide.txt one-row.txt; do
+    check_archive "$pool"
+done
+for name in $(sample_pools); do
+    "$here/../samples/run.sh" --lay-out "$name" "samples/$name"
+    check_archive "samples/$name/pool.txt"
+done
+if [ "$archived" -ge 30 ]; then
+    passed=$((passed + 1))
+else
+    failed=$((failed + 1))
+    echo "only $archived pools were packed and unpacked"
 fi
 
 echo "examples: $passed passed, $failed failed"

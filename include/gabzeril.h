@@ -5,12 +5,13 @@
  * Rules and tables are runs of 32-bit words that the caller lends: a rule has four words an entry
  * (kind a b c), a table six words a row (device at up deep name value). A set is rules laid end to end, and
  * a word for each that counts its entries. A plan has seven words a step, a kind and the words of a row. A
- * template is a rule with blanks, and parameters are a word each.
+ * template is a rule with blanks, and parameters are a word each. Columns are a table in the archive's order, as
+ * many words.
  * Words are numbers from 0 up, but for the value of a row, the constant of a comparison and a parameter: there a
  * word from 2147483648 up stands for a number below zero, the word less 4294967296; see gabzeril_word and
  * gabzeril_value.
- * Lengths are in words for rules, templates, parameters, counts, tables and plans, in bytes for files, marks
- * and verdicts. NULL with length 0 is an empty run. The library keeps no pointer, allocates nothing and has no
+ * Lengths are in words for rules, templates, parameters, counts, tables, columns and plans, in bytes for files,
+ * marks and verdicts. NULL with length 0 is an empty run. The library keeps no pointer, allocates nothing and has no
  * state: calls on different buffers may run side by side. Buffers of one call must not overlap.
  *
  * A refused call changes no byte of any buffer. An accepted call writes its answer at the start of its
@@ -32,7 +33,7 @@ extern "C" {
 #endif
 
 /* The Makefile reads the version from this line. */
-#define GABZERIL_VERSION "0.8.0"
+#define GABZERIL_VERSION "0.9.0"
 
 /* Limits. */
 
@@ -50,9 +51,9 @@ extern "C" {
 #define GABZERIL_VALUE_LIMIT 2147483647        /* the largest value, and the largest constant */
 #define GABZERIL_VALUE_LEAST (-2147483647 - 1) /* the least; every word stands for one from this to the largest */
 
-/* Buffers that are never too short. A part has at most the words of the device's table, marks have a byte
- * for each row of the pool, verdicts and counts of a set have at most GABZERIL_SET_LIMIT, verdicts of a trial as
- * many for each step. */
+/* Buffers that are never too short. A part has at most the words of the device's table, columns have as many as
+ * their table, which may be longer than an accepted one; marks have a byte for each row of the pool, verdicts and
+ * counts of a set have at most GABZERIL_SET_LIMIT, verdicts of a trial as many for each step. */
 
 #define GABZERIL_RULE_WORDS (GABZERIL_ENTRY_LIMIT * GABZERIL_ENTRY_WORDS) /* any rule */
 #define GABZERIL_SET_WORDS (GABZERIL_SET_LIMIT * GABZERIL_RULE_WORDS)     /* the rules of any set */
@@ -115,7 +116,7 @@ enum gabzeril_mode { GABZERIL_ALL = 1, GABZERIL_BRANCH = 2, GABZERIL_FULL = 3 };
 /* The kinds of step. */
 enum gabzeril_step { GABZERIL_STEP_SET = 1, GABZERIL_STEP_ADD = 2, GABZERIL_STEP_REMOVE = 3 };
 
-/* The numbers of the refusals. 15 is not used. A table is tested for 8, 9, 10, 11, 26 and 12, in
+/* The numbers of the refusals. 15 and 27 are not used. A table is tested for 8, 9, 10, 11, 26 and 12, in
  * this order; these are called "8 to 12 with 26" below. */
 enum gabzeril_refusal {
     GABZERIL_ACCEPTED = 0,
@@ -143,7 +144,8 @@ enum gabzeril_refusal {
     GABZERIL_REFUSED_STEP = 23,
     GABZERIL_REFUSED_ABSENT = 24,
     GABZERIL_REFUSED_REMOVAL = 25,
-    GABZERIL_REFUSED_DEPTH = 26
+    GABZERIL_REFUSED_DEPTH = 26,
+    GABZERIL_REFUSED_ROWS = 28
 };
 
 /* A refusal in words, for a message or a log. It belongs to this header and not to the library. */
@@ -177,6 +179,8 @@ static inline const char *gabzeril_refusal_text(uint32_t number)
         /* 24 */ "the row to set or remove is not there",
         /* 25 */ "the row to remove has rows under it",
         /* 26 */ "deep is not 0 at a root, or not one more than the parent's",
+        /* 27 */ "not used",
+        /* 28 */ "the words are not a whole number of rows",
     };
     return number < sizeof texts / sizeof texts[0] ? texts[number] : "unknown number";
 }
@@ -245,9 +249,23 @@ gabzeril_answer gabzeril_join(uint32_t *pool, size_t pool_length, size_t used,
  * a fault. This call alone gives no number. */
 gabzeril_span gabzeril_device_rows(const uint32_t *table, size_t table_length, uint32_t device);
 
-/* Reading a file gives words only; every other call checks its tables. Refusals 18, 19, 17. Value: the
- * number of words. With a buffer of GABZERIL_RULE_WORDS or GABZERIL_TABLE_WORDS, 17 is a file with more lines
- * than a rule or a table may have.
+/* The archive's order. A table's words stand column after column, in the order of a row: the device of every row,
+ * then the at of every row, then up, deep, name and value. The first word of a column stands as it is; each further
+ * one is replaced by its difference from the row above, wrapping at 32 bits. Neighbouring words are then alike, so
+ * that archives compress better.
+ *
+ * gabzeril_to_columns writes the words of `table` in that order, and gabzeril_from_columns gives back the table. Each
+ * undoes the other, whatever the words are: neither checks a table, and there is no limit to the number of rows.
+ * Without rows nothing is written. Refusals, both at place 0: 28 if the words are not a whole number of rows, then
+ * 17. Value: the number of words written, as many as are given. The output must be another buffer. */
+gabzeril_answer gabzeril_to_columns(const uint32_t *table, size_t table_length,
+                                    uint32_t *columns, size_t columns_length);
+gabzeril_answer gabzeril_from_columns(const uint32_t *columns, size_t columns_length,
+                                      uint32_t *table, size_t table_length);
+
+/* Reading a file gives words only; every other call but the two of the archive's order checks its tables. Refusals 18,
+ * 19, 17. Value: the number of words. With a buffer of GABZERIL_RULE_WORDS or GABZERIL_TABLE_WORDS, 17 is a file with
+ * more lines than a rule or a table may have.
  *
  * In a file a value is GABZERIL_VALUE_LEAST to GABZERIL_VALUE_LIMIT, with a minus sign below zero, and so is c where
  * the kind is 7, 8 or 9 and b is 1. All other numbers are 0 to 4294967295 and have no sign. */

@@ -1,14 +1,15 @@
 /* Damaged rule and pool files through gabzeril_check_files and gabzeril_report; signs and the order of values, in
  * hostile_values.c, through the calls that read, write and compare; damaged sets of rules, in hostile_sets.c,
  * through the three calls on sets; damaged plans, in hostile_trial.c, through gabzeril_try; damaged templates, in
- * hostile_templates.c, through gabzeril_fill.
+ * hostile_templates.c, through gabzeril_fill; runs of words, in hostile_archive.c, through the two calls of the archive's
+ * order.
  *
  *     hostile [CASES [SEED [FIRST]]]
  *
  * Case number n from FIRST on depends on SEED and n alone, so that one case can be run again. It is two files,
- * two values to compare, a set if n is even, else a plan, and a template.
+ * two values to compare, a set if n is even, else a plan, a template, and a run of words in either order.
  *
- * A sanitizer sees only code that was compiled with it, and the library's archive is not. So every buffer
+ * A sanitizer sees only code that was compiled with it, and the library is not. So every buffer
  * lies against a page without access, at its end or at its start, and inputs are on pages that are read-only
  * during the call: an access outside a buffer, or a write to an input, ends the program. That this happens is
  * tried first, in child processes. The sanitizers watch this harness itself.
@@ -566,7 +567,8 @@ static int run_case(uint64_t seed, unsigned long number)
     int good_files = run_files(), good_order = run_order();
     random_state = ~random_state;
     int good_rules = number % 2 == 0 ? run_set() : run_plan();
-    return run_template() && good_files && good_order && good_rules;
+    int good_template = run_template();
+    return run_archive() && good_files && good_order && good_rules && good_template;
 }
 
 /* The harness itself. */
@@ -620,6 +622,7 @@ static void make_areas(void)
     make_areas_of_sets();
     make_areas_of_plans();
     make_areas_of_templates();
+    make_areas_of_archives();
 }
 
 static void print_seen(void)
@@ -672,8 +675,10 @@ int main(int argc, char **argv)
     print_seen_by_sets();
     print_seen_by_plans();
     print_seen_by_templates();
+    print_seen_by_archives();
     if (cases >= MANY_CASES) {
-        failed += count_unseen() + count_unseen_by_sets() + count_unseen_by_plans() + count_unseen_by_templates();
+        failed += count_unseen() + count_unseen_by_sets() + count_unseen_by_plans() + count_unseen_by_templates() +
+                  count_unseen_by_archives();
     }
     printf("hostile: %lu passed, %lu failed\n", passed, failed);
     return failed != 0 || passed == 0;

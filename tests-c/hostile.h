@@ -1,4 +1,4 @@
-/* What damaged files, values, damaged sets, damaged plans and damaged templates share. */
+/* What damaged files, values, damaged sets, damaged plans, damaged templates and runs of columns share. */
 #ifndef HOSTILE_H
 #define HOSTILE_H
 
@@ -143,5 +143,17 @@ void print_seen_by_templates(void);
 
 /* How many answers of the call on templates, and verdicts of filled rules, no case gave. */
 unsigned long count_unseen_by_templates(void);
+
+/* Runs for the archive: hostile_archive.c. */
+
+void make_areas_of_archives(void);
+
+/* Runs the calls of the archive's order on the words of a case; 1 if all is as it should be. */
+int run_archive(void);
+
+void print_seen_by_archives(void);
+
+/* How many answers of the two calls, and kinds of runs, no case gave. */
+unsigned long count_unseen_by_archives(void);
 
 #endif

@@ -23,7 +23,7 @@ const ANY_ROOT: &str = "rule B over roots of any name, devices of three rows";
 const ROWS: [u32; 2] = [252, 1_020];
 
 /// Devices with an interface each, and rows under it that are not 0: of as many names as rows, or of one.
-fn blocks(rows: u32, ten_names: bool) -> Vec<u32> {
+pub fn blocks(rows: u32, ten_names: bool) -> Vec<u32> {
     let mut pool = vec![];
     for device in 1..=rows / DEVICE_ROWS {
         let device = root(device, 1, 1, 1_000 + device);

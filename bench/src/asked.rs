@@ -1,6 +1,7 @@
 //! The figures that are asked for, beside those measured.
 
 use crate::any_name;
+use crate::archive;
 use crate::cases::{
     label, A_TRUE, BOOK_ON_DEVICES, BOOK_ON_ONE_DEVICE, B_TRUE, C_TRUE, LONGEST_WITHOUT_SIGNS, ONE_DEVICE,
     ORDER_ON_ROOTS, THREE_ROWS,
@@ -70,6 +71,7 @@ pub fn print(counts: &Counts, before: &Counts) {
     trial::print_asked(counts);
     any_name::print_asked(counts);
     templates::print_asked(counts);
+    archive::print_asked(counts);
 }
 
 fn yes_or_no(met: bool) -> &'static str {

@@ -10,6 +10,8 @@ pub struct Side {
     fill: fn(&Filling, &mut [u32]) -> Answer,
     check_table: fn(&[u32]) -> Answer,
     join: fn(&mut [u32], usize, &[u32]) -> Answer,
+    to_columns: fn(&[u32], &mut [u32]) -> Answer,
+    from_columns: fn(&[u32], &mut [u32]) -> Answer,
     read_rule: fn(&[u8], &mut [u32]) -> Answer,
     read_pool: fn(&[u8], &mut [u32]) -> Answer,
     write_pool: fn(&[u32], &mut [u8]) -> Answer,
@@ -29,6 +31,8 @@ pub const LIBRARY: Side = Side {
     fill: |filling, rule| ffi::fill(&filling.template, &filling.parameters, rule),
     check_table: ffi::check_table,
     join: ffi::join,
+    to_columns: ffi::to_columns,
+    from_columns: ffi::from_columns,
     read_rule: ffi::read_rule,
     read_pool: ffi::read_pool,
     write_pool: ffi::write_pool,
@@ -50,6 +54,8 @@ pub const CHECKER: Side = Side {
     fill: |filling, rule| checker::fill(&filling.template, &filling.parameters, rule),
     check_table: checker::check_table,
     join: checker::join,
+    to_columns: checker::to_columns,
+    from_columns: checker::from_columns,
     read_rule: checker::read_rule,
     read_pool: checker::read_pool,
     write_pool: checker::write_pool,
@@ -81,6 +87,12 @@ pub enum Call {
     Join {
         first: Vec<u32>,
         second: Vec<u32>,
+    },
+    ToColumns {
+        table: Vec<u32>,
+    },
+    FromColumns {
+        columns: Vec<u32>,
     },
     ReadRule {
         file: Vec<u8>,
@@ -175,6 +187,8 @@ impl Call {
             Call::CheckTable { table } => (side.check_table)(table),
             // Each call puts the second table behind the same first one.
             Call::Join { first, second } => (side.join)(words, first.len(), second),
+            Call::ToColumns { table } => (side.to_columns)(table, words),
+            Call::FromColumns { columns } => (side.from_columns)(columns, words),
             Call::ReadRule { file } => (side.read_rule)(file, words),
             Call::ReadPool { file } => (side.read_pool)(file, words),
             Call::WritePool { table, room } => {
@@ -213,6 +227,8 @@ impl Call {
             Call::Fill { .. } => "fill".into(),
             Call::CheckTable { .. } => "check_table".into(),
             Call::Join { .. } => "join".into(),
+            Call::ToColumns { .. } => "to_columns".into(),
+            Call::FromColumns { .. } => "from_columns".into(),
             Call::ReadRule { .. } => "read_rule".into(),
             Call::ReadPool { .. } => "read_pool".into(),
             Call::WritePool { .. } => "write_pool".into(),

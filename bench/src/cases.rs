@@ -4,6 +4,7 @@ use gabzeril_tests::checker::{rows_of, words_of, POOL, ROW_WORDS, RULE};
 use gabzeril_tests::largest;
 
 use crate::any_name;
+use crate::archive;
 use crate::calls::Call;
 use crate::inputs::{
     all_in_one_chain, children_in_one_chain, deep, devices, early, gathered, late, longest_without_signs,
@@ -56,11 +57,11 @@ fn write_pool_just_fits(table: Vec<u32>) -> Call {
 pub const THREE_ROWS: &str = "devices of three rows";
 const TEN_DIGITS: &str = "devices of three rows, values of ten digits";
 const NINES: &str = "devices of three rows, values of nines";
-const BELOW_ZERO: &str = "devices of three rows, values below zero";
+pub const BELOW_ZERO: &str = "devices of three rows, values below zero";
 const LONGEST: &str = "longest rule, 128 entries";
 pub const ONE_DEVICE: &str = "one device";
 /// Each row hangs under the one before.
-const PATH: &str = "one path of rows";
+pub const PATH: &str = "one path of rows";
 pub const A_TRUE: &str = "rule A true, devices of three rows";
 pub const B_TRUE: &str = "rule B true, devices of three rows";
 pub const C_TRUE: &str = "rule C true, one device";
@@ -119,6 +120,7 @@ pub fn all() -> Vec<Case> {
     signs(&mut cases);
     any_name::add_cases(&mut cases);
     templates::add_cases(&mut cases);
+    archive::add_cases(&mut cases);
     cases
 }
 

@@ -6,8 +6,10 @@
 //! - `sqlite`: the library and SQLite on rules A and B.
 //! - `stack`: the stack that each call takes on the largest inputs.
 //! - `sent`: the rows sent for the formulas of document 004, and for a rule book.
+//! - `archive`: how well the archive's order compresses.
 
 mod any_name;
+mod archive;
 mod asked;
 mod book;
 mod calls;
@@ -38,8 +40,9 @@ fn main() {
             println!();
             book::print();
         }
+        ["archive"] => archive::print(),
         _ => {
-            eprintln!("usage: gabzeril-bench instructions | asked COUNTS BEFORE | times COUNTS BEFORE | sqlite | stack | sent");
+            eprintln!("usage: gabzeril-bench instructions | asked COUNTS BEFORE | times COUNTS BEFORE | sqlite | stack | sent | archive");
             std::process::exit(2);
         }
     }

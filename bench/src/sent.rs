@@ -108,13 +108,24 @@ impl Rounds {
     }
 }
 
+/// The dumps of the sizes, with random values or nodes; those of C3 have more rows than a table may have.
+pub fn dumps() -> Vec<(String, Vec<u32>)> {
+    let kinds = [(Nodes::Values, "random values"), (Nodes::All, "random nodes")];
+    let of = |(nodes, what)| {
+        SIZES.map(|size| (format!("{}, {what}", size.name), devices_of(&size, nodes, 0).concat()))
+    };
+    kinds.into_iter().flat_map(of).collect()
+}
+
+fn devices_of(size: &Size, nodes: Nodes, seed: u64) -> Vec<Vec<u32>> {
+    let mut random = Random::new(seed);
+    (1..=size.devices).map(|device| device_of(&mut random, device, size.nodes, nodes)).collect()
+}
+
 fn rounds(size: &Size, formula: &[u32], nodes: Nodes) -> Rounds {
     let mut sum = Sent { rows: [0; 3], whole_fits: true };
     for seed in 0..ROUNDS {
-        let mut random = Random::new(seed);
-        let devices: Vec<_> =
-            (1..=size.devices).map(|device| device_of(&mut random, device, size.nodes, nodes)).collect();
-        let sent = send(formula, &devices);
+        let sent = send(formula, &devices_of(size, nodes, seed));
         sum.whole_fits &= sent.whole_fits;
         for (sum, rows) in sum.rows.iter_mut().zip(sent.rows) {
             *sum += rows;

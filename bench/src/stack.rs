@@ -56,6 +56,8 @@ impl Most {
             self.note("check_table", |_, _| ffi::check_table(table));
             self.note("device_rows", |_, _| ffi::device_rows(table, 1));
             self.note("join", |words, _| ffi::join(words, 0, table));
+            self.note("to_columns", |words, _| ffi::to_columns(table, words));
+            self.note("from_columns", |words, _| ffi::from_columns(table, words));
             let file = POOL.text_of(table);
             self.note("read_pool", |words, _| ffi::read_pool(&file, words));
             self.note("write_pool", |_, bytes| ffi::write_pool(table, bytes));

@@ -51,9 +51,9 @@ impl From<Result<usize, Refusal>> for Answer {
     }
 }
 
-/// Whether a refusal may have this number. 15 is retired.
+/// Whether a refusal may have this number. 15 is retired, 27 not used.
 pub fn is_refusal(number: u32) -> bool {
-    matches!(number, 1..=14 | 16..=26)
+    matches!(number, 1..=14 | 16..=26 | 28)
 }
 
 /// Where the rows of one device stand, in words.
@@ -98,11 +98,11 @@ mod tests {
 
     #[test]
     fn unused_numbers_are_no_answers() {
-        for number in [15, 27, 28, 100, 126] {
+        for number in [15, 27, 29, 100, 126, 128] {
             let malformed = Answer::Malformed { number, place: 0, value: 0 };
             assert_eq!(Answer::from_words(number, 0, 0), malformed);
         }
-        for number in (1..=14).chain(16..=26) {
+        for number in (1..=14).chain(16..=26).chain([28]) {
             assert_eq!(Answer::from_words(number, 3, 0), Answer::refused(number, 3));
         }
     }

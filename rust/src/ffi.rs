@@ -37,6 +37,9 @@ pub use trial::*;
 #[cfg(feature = "templates")]
 pub use templates::*;
 
+#[cfg(feature = "archive")]
+pub use archive::*;
+
 #[repr(C)]
 struct RawAnswer {
     number: u32,
@@ -388,5 +391,33 @@ mod templates {
                 length,
             )
         })
+    }
+}
+
+#[cfg(feature = "archive")]
+mod archive {
+    use super::*;
+
+    extern "C" {
+        fn gabzeril_to_columns(
+            table: *const u32,
+            table_length: usize,
+            columns: *mut u32,
+            columns_length: usize,
+        ) -> RawAnswer;
+        fn gabzeril_from_columns(
+            columns: *const u32,
+            columns_length: usize,
+            table: *mut u32,
+            table_length: usize,
+        ) -> RawAnswer;
+    }
+
+    pub fn to_columns(table: &[u32], columns: &mut [u32]) -> Answer {
+        answer(unsafe { gabzeril_to_columns(lent(table), table.len(), lent_mut(columns), columns.len()) })
+    }
+
+    pub fn from_columns(columns: &[u32], table: &mut [u32]) -> Answer {
+        answer(unsafe { gabzeril_from_columns(lent(columns), columns.len(), lent_mut(table), table.len()) })
     }
 }

@@ -2,9 +2,10 @@
 
 use crate::checker::{
     rows_of, words_of, Row, ADD, ANY_NAME, ENTRY_WORDS, LEAST_VALUE, MOST_ENTRIES, MOST_NAME, MOST_NESTED,
-    MOST_PARAMETERS, MOST_ROWS, MOST_RULES, REMOVE, SET, STEP_WORDS,
+    MOST_PARAMETERS, MOST_ROWS, MOST_RULES, REMOVE, ROW_WORDS, SET, STEP_WORDS,
 };
 use crate::generate::{comparisons, Filling, Set};
+use crate::random::Random;
 
 const COMMON: u32 = 1;
 /// The name of the rows at the end of a table.
@@ -205,6 +206,12 @@ pub fn table_of_two() -> Vec<u32> {
 /// A table whose first and last row have the same name: a walk by halves goes as deep as it can.
 pub fn table_of_ends() -> Vec<u32> {
     table(|row| if row % (MOST_ROWS as u32 - 1) == 0 { [0, LAST] } else { [0, COMMON] })
+}
+
+/// A run of many more rows than a table may have, of any words, for the calls that check no table.
+pub fn long_run() -> Vec<u32> {
+    const ROWS: usize = 100_000;
+    Random::new(7).words(ROWS * ROW_WORDS)
 }
 
 /// Up and name of each row are given; its value is its place.

@@ -18,7 +18,7 @@ const TWO_DEVICES: [u32; 12] = [1, 1, 0, 0, 1, 1, 2, 1, 0, 0, 1, 2];
 const RULE_OF_ROOTS: [u32; 8] = [6, 1, 0, 1, 7, 0, 1, 1];
 
 /// What the header has beside constants.
-const OTHER_NAMES: [&str; 34] = [
+const OTHER_NAMES: [&str; 36] = [
     "GABZERIL_H",
     "gabzeril_answer",
     "gabzeril_check_files",
@@ -28,6 +28,7 @@ const OTHER_NAMES: [&str; 34] = [
     "gabzeril_device_rows",
     "gabzeril_entry_column",
     "gabzeril_fill",
+    "gabzeril_from_columns",
     "gabzeril_join",
     "gabzeril_kind",
     "gabzeril_marks",
@@ -43,6 +44,7 @@ const OTHER_NAMES: [&str; 34] = [
     "gabzeril_set_verdicts",
     "gabzeril_span",
     "gabzeril_step",
+    "gabzeril_to_columns",
     "gabzeril_trial",
     "gabzeril_try",
     "gabzeril_value",
@@ -269,6 +271,7 @@ fn refusals() -> Vec<(String, u64)> {
         ("REFUSED_STEP", try_step([0, 1, 1, 0, 0, 1, 1])),
         ("REFUSED_ABSENT", try_step([SET, 2, 1, 0, 0, 1, 1])),
         ("REFUSED_REMOVAL", try_step([REMOVE, 1, 1, 0, 0, 1, 1])),
+        ("REFUSED_ROWS", to_columns(&[1], &mut [])),
         ("REFUSED_SIBLING", check_table(&[1, 1, 0, 0, 1, 1, 2, 1, 0, 0, 1, 1])),
         ("REFUSED_MODE", part(&RULE_OF_ROOTS, one_row, 0, &mut [])),
         ("REFUSED_DEVICE", part(&RULE_OF_ROOTS, &TWO_DEVICES, 1, &mut [])),
@@ -341,7 +344,7 @@ fn every_refusal_has_one_name_and_one_text() {
     named.sort();
     let numbers: Vec<u64> = [0].into_iter().chain(refusal_numbers()).collect();
     assert_eq!(named, numbers);
-    assert!(!named.contains(&15));
+    assert!(!named.contains(&15) && !named.contains(&27));
     let texts = refusal_texts();
     assert_eq!(texts.len() as u64, numbers.last().expect("a number") + 1);
     // The numbers below the largest that are not used share one text, which no other has.

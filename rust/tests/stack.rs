@@ -7,7 +7,8 @@
     feature = "files_entry",
     feature = "sets",
     feature = "trial",
-    feature = "templates"
+    feature = "templates",
+    feature = "archive"
 ))]
 use gabzeril_tests::{checker, ffi, largest};
 
@@ -194,6 +195,28 @@ fn fillings() {
             let mut rule = vec![7; template.len()];
             let found = on_a_small_stack(|| ffi::fill(template, parameters, &mut rule));
             assert_eq!((found, rule), (answer, expected), "{filling:?}");
+        }
+    }
+}
+
+/// Reordered, with a word too few, and with a word of room too few.
+#[cfg(feature = "archive")]
+#[test]
+fn archive() {
+    use gabzeril_tests::compare::calls::Reorder;
+    let calls: [(Reorder, Reorder); 2] =
+        [(ffi::to_columns, checker::to_columns), (ffi::from_columns, checker::from_columns)];
+    for run in largest::tables().into_iter().chain([largest::longest_pool(), largest::long_run()]) {
+        for (call, model) in calls {
+            for (words, room, number) in
+                [(&run[..], run.len(), 0), (&run[1..], run.len(), 28), (&run, run.len() - 1, 17)]
+            {
+                let (mut expected, mut output) = (vec![7; room], vec![7; room]);
+                let answer = model(words, &mut expected);
+                assert_eq!(answer.number(), number);
+                let found = on_a_small_stack(|| call(words, &mut output));
+                assert!((found, output) == (answer, expected), "{found:?}, {} words", words.len());
+            }
         }
     }
 }

@@ -8,6 +8,7 @@ ghost use Rattle.tables.specs.Tables.{checkTable};
 ghost use Rattle.tables.specs.Joining.{joinAnswer, joinPool};
 ghost use Rattle.sets.specs.Sets.{checkSet};
 ghost use Rattle.templates.specs.Templates.{fillAnswer, fillOut};
+ghost use Rattle.archive.specs.Archive.{toColumnsAnswer, toColumnsOut, fromColumnsAnswer, fromColumnsOut};
 ghost use Rattle.tables.specs.Files.{readRule, readRuleOut, readPool, readPoolOut, writeRule, writeRuleOut, writePool, writePoolOut};
 ghost use Rattle.logic.specs.Verdict.{verdictAnswer, setVerdictsAnswer, setVerdictsOut};
 ghost use Rattle.logic.specs.Marks.{marksAnswer, marksOut};
@@ -86,6 +87,22 @@ pub extern "C" fn gabzeril_device_rows(table: &[u32], device: u32) -> CSpan
         start: s.start,
         length: s.end - s.start,
     }
+}
+
+#[no_mangle]
+pub extern "C" fn gabzeril_to_columns(table: &[u32], columns: &mut [u32]) -> CAnswer
+    ensures answer { λ r. ⌜ r ≡ answered (toColumnsAnswer (now (table .entry)) (length (now (columns .entry)))) ⌝ }
+    ensures words { λ r. ⌜ now (columns .exit) ≡ toColumnsOut (now (table .entry)) (now (columns .entry)) ⌝ }
+{
+    c_answer(archive::to_columns(table, columns))
+}
+
+#[no_mangle]
+pub extern "C" fn gabzeril_from_columns(columns: &[u32], table: &mut [u32]) -> CAnswer
+    ensures answer { λ r. ⌜ r ≡ answered (fromColumnsAnswer (now (columns .entry)) (length (now (table .entry)))) ⌝ }
+    ensures words { λ r. ⌜ now (table .exit) ≡ fromColumnsOut (now (columns .entry)) (now (table .entry)) ⌝ }
+{
+    c_answer(archive::from_columns(columns, table))
 }
 
 #[no_mangle]

@@ -1,6 +1,6 @@
 -- 01's worked pools (a) to (l), numbers of every width, values below zero, the reductions that lose a verdict, readings over roots,
--- quantifiers over any name, templates, marks that are relied on, sets of rules, plans, and a table on which the published meaning is not
--- that of rows: the rows of one table, with one test over all of them, proved in proofs/Cases. Assumes nothing.
+-- quantifiers over any name, templates, marks that are relied on, sets of rules, plans, the archive's order, and a table on which the
+-- published meaning is not that of rows: the rows of one table, with one test over all of them, proved in proofs/Cases. Assumes nothing.
 use Prim.Native.Nat.{ℕ, _+_, _-_, _*_}
 use mathlib.Core.Path.{_≡_}
 use mathlib.Core.Bool.{Bool, true, false, not, cond, _&&_}
@@ -21,6 +21,7 @@ use Rattle.tables.specs.declared.Answer.{Answer}
 use Rattle.tables.specs.declared.Answer.the-variants.{Done, Refused}
 use Rattle.sets.specs.Sets.{rulesOf, checkSet}
 use Rattle.templates.specs.Templates.{fillAnswer, fillOut, written}
+use Rattle.archive.specs.Archive.{toColumns, fromColumns, toColumnsAnswer, toColumnsOut, fromColumnsAnswer, fromColumnsOut}
 use Rattle.plans.specs.declared.Trial.{Trial}
 use Rattle.logic.specs.Formulas.{formula}
 use Rattle.logic.specs.Verdict.{verdict, verdictAnswer, setVerdictsAnswer, setVerdictsOut}
@@ -69,6 +70,11 @@ pub data Case : Type 0 where
   unfilled : List ℕ → List ℕ → ℕ → Answer → Case
   -- template, parameters, pool: the template's verdict, its published truth and the filled rule's verdict
   templateJudged : List ℕ → List ℕ → List ℕ → Bool → Case
+  -- a table, its words in the archive's order: each call gives one from the other; the same of any number of columns, by the definitions
+  archived : List ℕ → List ℕ → Case
+  inColumns : ℕ → List ℕ → List ℕ → Case
+  -- words, words of room: what both calls answer, refusing
+  unarchived : List ℕ → ℕ → Answer → Case
   -- rule, a table that is not accepted: its refusal, the published truth, the verdict on rows
   differs : List ℕ → List ℕ → Answer → Bool → Bool → Case
 
@@ -173,6 +179,17 @@ right (templateJudged template parameters pool truth) =
     sameBool (templateVerdict template parameters (rows pool)) truth
     && sameBool (publishedTemplate template parameters pool) truth
     && sameAnswer (verdictAnswer (written template parameters (buffer (length template))) pool) (Done (one truth))
+right (archived table columns) =
+    sameAnswer (toColumnsAnswer table (length columns)) (Done (length columns))
+    && sameWords (toColumnsOut table (buffer (length columns + 1))) (columns ++ buffer 1)
+    && sameAnswer (fromColumnsAnswer columns (length table)) (Done (length table))
+    && sameWords (fromColumnsOut columns (buffer (length table + 1))) (table ++ buffer 1)
+right (inColumns k words columns) = sameWords (toColumns k words) columns && sameWords (fromColumns k columns) words
+right (unarchived words room answer) =
+    sameAnswer (toColumnsAnswer words room) answer
+    && sameWords (toColumnsOut words (buffer room)) (buffer room)
+    && sameAnswer (fromColumnsAnswer words room) answer
+    && sameWords (fromColumnsOut words (buffer room)) (buffer room)
 right (differs rule pool answer truth onRows) =
     acceptedRule rule && sameAnswer (checkTable pool) answer
     && sameBool (published rule pool) truth
@@ -461,6 +478,32 @@ cases =
     ∷ tries (ruleA ++ ruleB) (6 ∷ 8 ∷ []) D1 secondServer 60 8 20 0 0 [] []
     ∷ tries (ruleA ++ ruleB) (6 ∷ 9 ∷ []) (D2 ++ D1) secondServer 60 8 10 2 0 [] []
     ∷ tries (ruleA ++ ruleB) (6 ∷ 9 ∷ []) (D1 ++ D2) secondServer 29 8 17 0 0 [] []
+    -- the archive's order: column after column, each word but the first as its difference from the row above; 2 less 11 wraps
+    ∷ archived D1
+    (1 ∷ 0 ∷ 0 ∷ 1 ∷ 1 ∷ 1 ∷ 0 ∷ 1 ∷ 0 ∷ 0 ∷ 1 ∷ 0 ∷ 1 ∷ 1 ∷ 1 ∷ 11 ∷ 4294967287 ∷ 99 ∷ [])
+    -- where a device ends and the next begins, too
+    ∷ archived (D1 ++ D2)
+    (1 ∷ 0 ∷ 0 ∷ 1 ∷ 0
+    ∷ 1 ∷ 1 ∷ 1 ∷ 4294967294 ∷ 1
+    ∷ 0 ∷ 1 ∷ 0 ∷ 4294967295 ∷ 1
+    ∷ 0 ∷ 1 ∷ 0 ∷ 4294967295 ∷ 1
+    ∷ 1 ∷ 1 ∷ 1 ∷ 4294967294 ∷ 1
+    ∷ 11 ∷ 4294967287 ∷ 99 ∷ 4294967207 ∷ 4294967285 ∷ [])
+    -- no rows; one row; rows of no accepted table, whatever their words
+    ∷ archived [] []
+    ∷ archived (row 1 1 0 0 1 11) (row 1 1 0 0 1 11)
+    ∷ archived (row 0 4294967295 2147483648 5 7 1 ++ row 4294967295 0 2147483648 4 7 4294967295)
+    (0 ∷ 4294967295 ∷ 4294967295 ∷ 1 ∷ 2147483648 ∷ 0 ∷ 5 ∷ 4294967295 ∷ 7 ∷ 0 ∷ 1 ∷ 4294967294 ∷ [])
+    -- one column, two, and as many as words; without columns there are no words
+    ∷ inColumns 1 (5 ∷ 3 ∷ 3 ∷ 4 ∷ []) (5 ∷ 4294967294 ∷ 0 ∷ 1 ∷ [])
+    ∷ inColumns 2 (5 ∷ 3 ∷ 3 ∷ 4 ∷ []) (5 ∷ 4294967294 ∷ 3 ∷ 1 ∷ [])
+    ∷ inColumns 4 (5 ∷ 3 ∷ 3 ∷ 4 ∷ []) (5 ∷ 3 ∷ 3 ∷ 4 ∷ [])
+    ∷ inColumns 0 [] []
+    -- 28: not a whole number of rows, also where there is no room; else 17
+    ∷ unarchived (D1 ++ 7 ∷ []) 24 (Refused 28 0)
+    ∷ unarchived (1 ∷ 2 ∷ 3 ∷ 4 ∷ 5 ∷ []) 0 (Refused 28 0)
+    ∷ unarchived D1 17 (Refused 17 0)
+    ∷ unarchived (row 0 0 0 0 0 0) 0 (Refused 17 0)
     -- without check 12 the sets of values and the rows differ: two nodes 1 = 5, of which one has a child; so on two
     -- devices, and under one parent
     ∷ differs everyHasOne (row 1 1 0 0 1 5 ++ row 1 2 1 1 2 1 ++ row 1 3 0 0 1 5) (Refused 12 2) true false

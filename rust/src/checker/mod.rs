@@ -2,6 +2,7 @@
 //! with. Each call of the C interface has a function of the same name here, which gives the same answer
 //! and leaves the same content in its buffers.
 
+mod archive;
 mod device;
 #[cfg(test)]
 mod elsewhere;
@@ -28,12 +29,15 @@ mod worked;
 #[cfg(test)]
 mod worked_any_name;
 #[cfg(test)]
+mod worked_archive;
+#[cfg(test)]
 mod worked_signs;
 #[cfg(test)]
 mod worked_templates;
 #[cfg(test)]
 mod worked_trials;
 
+pub use archive::{columns_of, from_columns, table_of, to_columns};
 pub use device::{device_rows, devices_of};
 pub use entry::{Entry, Quantifier, Relation};
 pub use files::{read_pool, read_rule, write_pool, write_rule, Format, POOL, RULE};

@@ -1,5 +1,7 @@
 //! One comparison for each call of the C interface: the answer, and the final content of every buffer.
 
+#[cfg(feature = "archive")]
+pub use archive::*;
 #[cfg(feature = "engine")]
 pub use engine::*;
 #[cfg(feature = "files_entry")]
@@ -294,6 +296,36 @@ mod templates {
         let kept = lent_template.holds(template) && lent_parameters.holds(parameters);
         case.compared(expected == found && kept && rule.holds(&after), expected, || {
             format!("fill {filling:?} {output:?}: {expected:?} {after:?}, found {found:?} {:?}", rule.get())
+        });
+    }
+}
+
+#[cfg(feature = "archive")]
+mod archive {
+    use crate::answer::Answer;
+    use crate::compare::{Case, Lent};
+    use crate::{checker, ffi};
+
+    /// A call that gives words another order, and its model.
+    pub type Reorder = fn(&[u32], &mut [u32]) -> Answer;
+
+    pub fn to_columns(case: &mut Case, table: &[u32], output: &[u32]) {
+        reorder(case, "to_columns", [checker::to_columns, ffi::to_columns], table, output);
+    }
+
+    pub fn from_columns(case: &mut Case, columns: &[u32], output: &[u32]) {
+        reorder(case, "from_columns", [checker::from_columns, ffi::from_columns], columns, output);
+    }
+
+    fn reorder(case: &mut Case, name: &str, [model, call]: [Reorder; 2], words: &[u32], output: &[u32]) {
+        let mut after = output.to_vec();
+        let expected = model(words, &mut after);
+        let (lent_words, mut lent_output) = (Lent::of(words), Lent::of(output));
+        let found = call(lent_words.get(), lent_output.get_mut());
+        let same = expected == found && lent_words.holds(words) && lent_output.holds(&after);
+        case.compared(same, expected, || {
+            let written = lent_output.get();
+            format!("{name} {words:?} {output:?}: {expected:?} {after:?}, found {found:?} {written:?}")
         });
     }
 }

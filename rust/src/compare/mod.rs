@@ -1,5 +1,6 @@
 //! Running seeded cases and counting the comparisons.
 
+pub mod archive;
 pub mod calls;
 pub mod each_call;
 pub mod fillings;

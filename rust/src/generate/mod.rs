@@ -2,6 +2,7 @@
 
 mod answers;
 mod any_name;
+mod archive;
 mod chains;
 mod changes;
 mod collisions;
@@ -27,6 +28,7 @@ mod nested;
 mod order_of_words;
 mod other_fillers;
 mod other_markings;
+mod other_orders;
 #[cfg(test)]
 mod plan_tests;
 mod plans;
@@ -46,6 +48,7 @@ mod together;
 mod vocabulary;
 
 pub use any_name::{has_any_name, widened, Narrow, OneSided};
+pub use archive::{accepted_rows, any_run, rows_of_every_kind, whole_rows};
 pub use changes::{changes, with_other_name, with_other_parent, with_other_values, Change, Changes};
 pub use collisions::{colliding_rows, two_colliding_tables};
 pub use conjunction::conjunction;
@@ -74,6 +77,7 @@ pub use order_of_words::{
 };
 pub use other_fillers::{blanks_would_pass, OtherFiller};
 pub use other_markings::OtherMarking;
+pub use other_orders::OtherOrder;
 pub use plans::{plan, plan_on_a_full_table, plan_on_colliding_rows, Plan, PlanLimit};
 pub use pools::{pool, pool_of, PoolShape};
 pub use requests::{one_or_several, unknown_mode, with_another_device};
