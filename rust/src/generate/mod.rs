@@ -1,5 +1,6 @@
 //! Random rules, pools and files, accepted and damaged.
 
+mod all_variants;
 mod answers;
 mod any_name;
 mod archive;

@@ -1,89 +1,78 @@
 //! Fillers that are not the contract's. Each differs from it in one thing.
 
+use super::all_variants::all_variants;
 use super::templates::Filling;
 use crate::answer::{Answer, Refusal};
 use crate::checker::{accepted_rule, accepted_template, is_blank, ENTRY_WORDS, LEAST_VALUE, MOST_PARAMETERS};
 
-/// The variants, and all of them in a list.
-macro_rules! other_fillers {
-    ($($(#[$about:meta])* $filler:ident,)*) => {
-        #[derive(Clone, Copy, Debug, PartialEq, Eq)]
-        pub enum OtherFiller {
-            $($(#[$about])* $filler,)*
-        }
+all_variants! {
+    pub enum OtherFiller {
+        // What is a blank.
+        /// b = 2 of a quantifier, which tells the variable of the parent.
+        QuantifiersToo,
+        /// b = 2 of a connective, its right child.
+        ConnectivesToo,
+        ConstantsToo,
+        VariablesToo,
+        /// Not those of less and at most.
+        EqualAlone,
 
-        impl OtherFiller {
-            pub const ALL: &[OtherFiller] = &[$(OtherFiller::$filler,)*];
-        }
-    };
-}
+        // What is written.
+        /// b becomes 1, c stays the number.
+        NumberStays,
+        /// c becomes the parameter, b stays 2.
+        BStays,
+        FirstBlankAlone,
+        /// All entries but the blanks are as they came.
+        BlanksAlone,
+        CountedFromOne,
+        /// The blanks get the parameters one after the other, whatever their numbers.
+        InOrderOfEntries,
+        NumberModulo16,
+        /// The words past the rule become 0.
+        ClearsWhatLiesPast,
+        EntriesAsValue,
+        WritesThoughRefused,
 
-other_fillers! {
-    // What is a blank.
-    /// b = 2 of a quantifier, which tells the variable of the parent.
-    QuantifiersToo,
-    /// b = 2 of a connective, its right child.
-    ConnectivesToo,
-    ConstantsToo,
-    VariablesToo,
-    /// Not those of less and at most.
-    EqualAlone,
-
-    // What is written.
-    /// b becomes 1, c stays the number.
-    NumberStays,
-    /// c becomes the parameter, b stays 2.
-    BStays,
-    FirstBlankAlone,
-    /// All entries but the blanks are as they came.
-    BlanksAlone,
-    CountedFromOne,
-    /// The blanks get the parameters one after the other, whatever their numbers.
-    InOrderOfEntries,
-    NumberModulo16,
-    /// The words past the rule become 0.
-    ClearsWhatLiesPast,
-    EntriesAsValue,
-    WritesThoughRefused,
-
-    // What is refused.
-    /// 22 before 21.
-    UnusedFirst,
-    /// 21 before 1 to 7.
-    MissingFirst,
-    /// 17 before all others.
-    ShortFirst,
-    /// Of the numbers without parameter, the last one's place.
-    LastPlace,
-    /// 22 at the parameter that is not used.
-    PlaceOfUnused,
-    /// Parameters count as used up to the largest number.
-    UsedUpToLargest,
-    /// They count as used if there are as many blanks.
-    UsedByCount,
-    /// They count as used if any entry has the number as its c.
-    UsedByAnyEntry,
-    /// A number that several blanks have is 22.
-    SharedRefused,
-    /// More than 16 blanks are 22.
-    SixteenBlanks,
-    UnusedAllowed,
-    /// 17 parameters are accepted.
-    SeventeenAllowed,
-    /// 16 parameters are 22.
-    SixteenRefused,
-    /// A number above 15 is 3.
-    NumbersTo15,
-    /// A number that is no bound variable is 7.
-    NumbersAreVariables,
-    /// The left variable of a blank need not be bound.
-    LeftSideFree,
-    /// b = 3 of a comparison passes, too.
-    ThreePasses,
-    /// With blanks and no parameters the template is copied.
-    CopiedWithoutParameters,
-    /// A parameter below zero is 22.
-    NoneBelowZero,
+        // What is refused.
+        /// 22 before 21.
+        UnusedFirst,
+        /// 21 before 1 to 7.
+        MissingFirst,
+        /// 17 before all others.
+        ShortFirst,
+        /// Of the numbers without parameter, the last one's place.
+        LastPlace,
+        /// 22 at the parameter that is not used.
+        PlaceOfUnused,
+        /// Parameters count as used up to the largest number.
+        UsedUpToLargest,
+        /// They count as used if there are as many blanks.
+        UsedByCount,
+        /// They count as used if any entry has the number as its c.
+        UsedByAnyEntry,
+        /// A number that several blanks have is 22.
+        SharedRefused,
+        /// More than 16 blanks are 22.
+        SixteenBlanks,
+        UnusedAllowed,
+        /// 17 parameters are accepted.
+        SeventeenAllowed,
+        /// 16 parameters are 22.
+        SixteenRefused,
+        /// A number above 15 is 3.
+        NumbersTo15,
+        /// A number that is no bound variable is 7.
+        NumbersAreVariables,
+        /// The left variable of a blank need not be bound.
+        LeftSideFree,
+        /// b = 3 of a comparison passes, too.
+        ThreePasses,
+        /// With blanks and no parameters the template is copied.
+        CopiedWithoutParameters,
+        /// A parameter below zero is 22.
+        NoneBelowZero,
+    }
 }
 
 use OtherFiller::*;

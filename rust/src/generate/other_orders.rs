@@ -1,97 +1,86 @@
 //! Orders that are not the archive's. Each differs from it in one thing, in both calls.
 
+use super::all_variants::all_variants;
 use crate::answer::{Answer, Refusal};
 use crate::checker::{accepted_table, ENTRY_WORDS, MOST_ROWS, ROW_WORDS};
 
-/// The variants, and all of them in a list.
-macro_rules! other_orders {
-    ($($(#[$about:meta])* $order:ident,)*) => {
-        #[derive(Clone, Copy, Debug, PartialEq, Eq)]
-        pub enum OtherOrder {
-            $($(#[$about])* $order,)*
-        }
+all_variants! {
+    pub enum OtherOrder {
+        // Where the words stand.
+        /// Differences, but row after row as in a table.
+        RowAfterRow,
+        /// The columns from the last to the first.
+        ValueFirst,
+        /// Each column from the last row to the first.
+        LastRowFirst,
+        /// The words as they are.
+        Copied,
 
-        impl OtherOrder {
-            pub const ALL: &[OtherOrder] = &[$(OtherOrder::$order,)*];
-        }
-    };
-}
+        // From what a difference is taken.
+        /// Columns of the words themselves.
+        NoDifferences,
+        /// The word above as it is in the archive.
+        FromTheReplaced,
+        /// The first word of a column from the last of the column before.
+        NotReset,
+        FromTheFirstRow,
+        FromTheRowBelow,
+        /// The word before in the same row.
+        FromTheSameRow,
+        /// No differences of devices, or of values.
+        DevicesStand,
+        ValuesStand,
 
-other_orders! {
-    // Where the words stand.
-    /// Differences, but row after row as in a table.
-    RowAfterRow,
-    /// The columns from the last to the first.
-    ValueFirst,
-    /// Each column from the last row to the first.
-    LastRowFirst,
-    /// The words as they are.
-    Copied,
+        // What a difference is.
+        AddForSubtract,
+        /// The word above less the word.
+        TurnedRound,
+        SignLost,
+        /// Differences end at 0, sums at the largest word.
+        EndsAtZero,
+        /// Both end at the largest and the least value.
+        EndsAtValues,
+        WrapsAt31Bits,
+        WrapsAt16Bits,
 
-    // From what a difference is taken.
-    /// Columns of the words themselves.
-    NoDifferences,
-    /// The word above as it is in the archive.
-    FromTheReplaced,
-    /// The first word of a column from the last of the column before.
-    NotReset,
-    FromTheFirstRow,
-    FromTheRowBelow,
-    /// The word before in the same row.
-    FromTheSameRow,
-    /// No differences of devices, or of values.
-    DevicesStand,
-    ValuesStand,
+        // What is answered and written.
+        /// Each call does what the other should.
+        Exchanged,
+        RowsAsValue,
+        RoomAsValue,
+        /// The words past the answer become 0.
+        ClearsWhatLiesPast,
+        WritesThoughRefused,
 
-    // What a difference is.
-    AddForSubtract,
-    /// The word above less the word.
-    TurnedRound,
-    SignLost,
-    /// Differences end at 0, sums at the largest word.
-    EndsAtZero,
-    /// Both end at the largest and the least value.
-    EndsAtValues,
-    WrapsAt31Bits,
-    WrapsAt16Bits,
-
-    // What is answered and written.
-    /// Each call does what the other should.
-    Exchanged,
-    RowsAsValue,
-    RoomAsValue,
-    /// The words past the answer become 0.
-    ClearsWhatLiesPast,
-    WritesThoughRefused,
-
-    // What is refused.
-    /// 17 before 28.
-    ShortFirst,
-    /// More than 1,024 rows are 8.
-    RowLimit,
-    /// A table that is refused elsewhere.
-    AcceptedTablesAlone,
-    /// No words are 28.
-    NoRowsRefused,
-    /// Rows of so many words.
-    RowsOfTwo,
-    RowsOfThree,
-    RowsOfFour,
-    RowsOfFive,
-    /// Words that make no row are left out.
-    RestLeftOut,
-    /// The answer is 8 in the place of 28.
-    EightForRest,
-    /// 28 at the row that lacks words.
-    PlaceOfRest,
-    /// 17 at the first row for which there is no room.
-    PlaceOfShort,
-    /// 17 unless the output is longer than the answer.
-    JustFitsRefused,
-    /// 17 also if it is longer.
-    LongerRefused,
-    /// 28 also if the room is not whole rows.
-    RoomInRows,
+        // What is refused.
+        /// 17 before 28.
+        ShortFirst,
+        /// More than 1,024 rows are 8.
+        RowLimit,
+        /// A table that is refused elsewhere.
+        AcceptedTablesAlone,
+        /// No words are 28.
+        NoRowsRefused,
+        /// Rows of so many words.
+        RowsOfTwo,
+        RowsOfThree,
+        RowsOfFour,
+        RowsOfFive,
+        /// Words that make no row are left out.
+        RestLeftOut,
+        /// The answer is 8 in the place of 28.
+        EightForRest,
+        /// 28 at the row that lacks words.
+        PlaceOfRest,
+        /// 17 at the first row for which there is no room.
+        PlaceOfShort,
+        /// 17 unless the output is longer than the answer.
+        JustFitsRefused,
+        /// 17 also if it is longer.
+        LongerRefused,
+        /// 28 also if the room is not whole rows.
+        RoomInRows,
+    }
 }
 
 use OtherOrder::*;
