@@ -4,6 +4,11 @@
 #   bench/run.sh            to standard output
 #   bench/run.sh --update   into docs/BENCHMARKS.md, behind its line <!-- results -->
 #
+#   bench/run.sh --pairs [TEXT..]
+#
+# prints only the instructions of the rules that compare rows with rows: of all cases, or of those whose label has
+# one of the texts.
+#
 # The instructions of each case stay in build/bench/instructions.txt. A copy of it kept as bench/before.txt
 # is shown beside those of later runs.
 set -eu
@@ -29,20 +34,27 @@ folder=$(mktemp -d)
 trap 'rm -rf "$folder"' EXIT
 
 # callgrind writes one dump for each call, numbered from 1 in the order of the cases.
-count_instructions() {
+# Prints a line for each case.
+count_instructions() { # further arguments of the program
     valgrind --tool=callgrind --callgrind-out-file="$folder/dump" --toggle-collect=measured_call \
-        --dump-after=measured_call "$program" instructions > "$folder/labels" 2> "$folder/log" ||
+        --dump-after=measured_call "$program" instructions "$@" > "$folder/labels" 2> "$folder/log" ||
         { cat "$folder/log" >&2; exit 1; }
     number=0
     while IFS= read -r label; do
         number=$((number + 1))
         printf '%s\t%s\n' "$(sed -n 's/^totals: //p' "$folder/dump.$number")" "$label"
-    done < "$folder/labels" > "$counts"
+    done < "$folder/labels"
 }
+
+if [ "${1:-}" = --pairs ]; then
+    shift
+    count_instructions pairs "$@"
+    exit
+fi
 
 rm -f "$counts"
 if command -v valgrind > /dev/null; then
-    count_instructions
+    count_instructions > "$counts"
 fi
 
 commit=$(git describe --always --dirty 2> /dev/null || echo unknown)

@@ -7,6 +7,7 @@ use crate::cases::{
     ORDER_ON_ROOTS, THREE_ROWS,
 };
 use crate::instructions::{shown, Counts};
+use crate::pairs;
 use crate::templates;
 use crate::trial;
 
@@ -23,13 +24,14 @@ const fn limit(call: &'static str, on: &'static str, rows: u32, most: Option<u64
     Limit { call, on, rows, most }
 }
 
-const LIMITS: [Limit; 24] = [
+const LIMITS: [Limit; 25] = [
     limit("check_table", THREE_ROWS, 1_020, Some(400_000)),
     limit("check_table", ONE_DEVICE, 1_021, Some(400_000)),
     limit("verdict", B_TRUE, 1_020, Some(2_000_000)),
     limit("verdict", A_TRUE, 1_020, Some(1_000_000)),
-    limit("verdict", C_TRUE, 1_021, Some(8_000_000)),
+    limit("verdict", C_TRUE, 1_021, Some(1_000_000)),
     limit("marks", B_TRUE, 1_020, Some(150_000_000)),
+    limit("marks", C_TRUE, 1_021, Some(2_000_000)),
     // Three percent more for a verdict, and ten for reading, than before values had signs.
     limit("verdict", ORDER_ON_ROOTS, 256, Some(19_970_628)),
     limit("read_pool", THREE_ROWS, 1_020, Some(891_005)),
@@ -72,9 +74,11 @@ pub fn print(counts: &Counts, before: &Counts) {
     any_name::print_asked(counts);
     templates::print_asked(counts);
     archive::print_asked(counts);
+    println!();
+    pairs::print(counts, before);
 }
 
-fn yes_or_no(met: bool) -> &'static str {
+pub fn yes_or_no(met: bool) -> &'static str {
     if met {
         "yes"
     } else {

@@ -4,6 +4,8 @@ use gabzeril_tests::answer::{Answer, Trial};
 use gabzeril_tests::generate::{Filling, Plan, Set};
 use gabzeril_tests::{checker, ffi};
 
+use crate::loops::Loops;
+
 /// The same functions of either side.
 pub struct Side {
     check_rule: fn(&[u32]) -> Answer,
@@ -152,6 +154,11 @@ pub enum Call {
     Try {
         plan: Plan,
     },
+    /// Plain loops in C in the place of the library or the checker.
+    Loops {
+        loops: Loops,
+        pool: Vec<u32>,
+    },
 }
 
 /// The outputs of a call, long enough for any. They are not cleared from one call to the next.
@@ -213,6 +220,7 @@ impl Call {
                 Trial { number: 0, rows, .. } => Answer::Done(rows),
                 refused => refused.answer(),
             },
+            Call::Loops { loops, pool } => loops.run(pool, bytes),
         }
     }
 
@@ -243,6 +251,7 @@ impl Call {
             Call::EachVerdict { .. } => "verdict of each rule".into(),
             Call::EachPart { mode, .. } => format!("part for each rule, mode {mode}"),
             Call::Try { .. } => "try".into(),
+            Call::Loops { loops, .. } => loops.name().into(),
         }
     }
 }

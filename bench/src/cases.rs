@@ -12,6 +12,7 @@ use crate::inputs::{
     rule_book, values_below_zero, values_of_nines, values_of_ten_digits, with_no_parent, with_wrong_depth,
     with_wrong_depths, A, B, C, ORDER,
 };
+use crate::pairs;
 use crate::templates;
 use crate::trial;
 
@@ -19,6 +20,8 @@ pub struct Case {
     pub call: Call,
     pub on: String,
     pub rows: u32,
+    /// Whether the checker is not timed: it takes too long, or has no such call.
+    pub long: bool,
 }
 
 impl Case {
@@ -33,7 +36,7 @@ pub fn label(call: &str, on: &str, rows: u32) -> String {
 }
 
 pub fn case(call: Call, on: impl Into<String>, rows: u32) -> Case {
-    Case { call, on: on.into(), rows }
+    Case { long: call.is_long(), call, on: on.into(), rows }
 }
 
 fn verdict(rule: &[u32], pool: Vec<u32>) -> Call {
@@ -121,6 +124,7 @@ pub fn all() -> Vec<Case> {
     any_name::add_cases(&mut cases);
     templates::add_cases(&mut cases);
     archive::add_cases(&mut cases);
+    cases.extend(pairs::cases());
     cases
 }
 

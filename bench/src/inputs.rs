@@ -19,7 +19,7 @@ pub const B: [u32; 36] = [
 pub const C: [u32; 20] = [5, 1, 0, 1, 5, 2, 1, 3, 6, 3, 2, 4, 5, 4, 3, 5, 8, 3, 1, 1_000_000];
 
 const CLIENT: u32 = 1;
-const SERVER: u32 = 2;
+pub const SERVER: u32 = 2;
 
 /// Devices of three rows as the contract's D1; the first has up to two interfaces more, so that the rows add
 /// up. The last `servers` of them are servers.
@@ -281,7 +281,7 @@ pub fn late(rows: u32) -> Vec<u32> {
 }
 
 /// The number of the entry that is added next.
-fn next_entry(rule: &[u32]) -> u32 {
+pub fn next_entry(rule: &[u32]) -> u32 {
     (rule.len() / ENTRY_WORDS) as u32
 }
 

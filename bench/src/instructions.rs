@@ -4,7 +4,7 @@ use std::collections::HashMap;
 use std::hint::black_box;
 
 use crate::calls::{Call, Outputs, LIBRARY};
-use crate::cases;
+use crate::cases::Case;
 
 /// The function that callgrind is told to look at. It and the wrappers add fewer than a hundred instructions.
 #[no_mangle]
@@ -14,8 +14,8 @@ pub extern "C" fn measured_call(call: &Call, outputs: &mut Outputs) {
 }
 
 /// Makes each call once and prints its label.
-pub fn make_each_call() {
-    for case in cases::all() {
+pub fn make_each_call(cases: &[Case]) {
+    for case in cases {
         let mut outputs = Outputs::of(&case.call);
         measured_call(&case.call, &mut outputs);
         println!("{}", case.label());

@@ -15,7 +15,7 @@ pub fn print(counts: &Counts, before: &Counts) {
         let (name, on, rows) = (case.call.name(), &case.on, case.rows);
         let library = time(case, &LIBRARY);
         let [before, count] = [before, counts].map(|counts| shown(counts.of(&case.label())));
-        let checker = if case.call.is_long() { " | ".into() } else { beside_checker(case, library) };
+        let checker = if case.long { " | ".into() } else { beside_checker(case, library) };
         println!("| {name} | {on} | {rows} | {library:.2} | {checker} | {before} | {count} |");
     }
 }
