@@ -33,7 +33,7 @@ extern "C" {
 #endif
 
 /* The Makefile reads the version from this line. */
-#define GABZERIL_VERSION "0.9.0"
+#define GABZERIL_VERSION "0.9.1"
 
 /* Limits. */
 

@@ -18,9 +18,9 @@ const WRITERS: [&str; 3] =
 /// What reads digits.
 const READER: &str = "crates/tables/src/reading.rt";
 
-/// What the other sources divide by: words of a row, an entry and a step, halves, and the hash's powers of
-/// two.
-const DIVISORS: [&str; 6] = ["ROW_WORDS", "ENTRY_WORDS", "STEP_WORDS", "2", "4294967296", "4194304"];
+/// What the other sources divide by: words of a row, an entry and a step, halves, the depths that a guess tells
+/// apart, and the hash's powers of two.
+const DIVISORS: [&str; 7] = ["ROW_WORDS", "ENTRY_WORDS", "STEP_WORDS", "2", "DEPTHS", "4294967296", "4194304"];
 
 /// Every source below the folder, by its path from the repository's root.
 fn sources(folder: &str, found: &mut Vec<String>) {

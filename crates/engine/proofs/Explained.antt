@@ -19,7 +19,7 @@ use Rattle.tables.specs.declared.Entry.{Entry}
 use Rattle.logic.specs.Formulas.{Formula, negation, and, or, implies, Quantifier, every, some, operandOf, formulaAt}
 use Rattle.logic.specs.Verdict as meaning
 use Rattle.logic.specs.Marks.{rowOf, rowsOf, leftDecides, rightDecides, because, decides, witnesses, reason}
-use Rattle.logic.proofs.Walks.{settled-left, settled-right, fold-append, fold-one}
+use Rattle.logic.proofs.Walks.{select-halves, settled-left, settled-right, fold-append, fold-one}
 use Rattle.logic.proofs.Reasons.{unsettled-decides, witnesses-all, none-decides, witness-first}
 use Rattle.engine.specs.Places.{bindAt, bindingsOf}
 use Rattle.engine.specs.Ready.{connectiveOf, quantifierOf, meant, rangesAt, Ready, verdictAt, ReadyRows, rangedFrom, bodyAt, verdictFrom}
@@ -28,7 +28,7 @@ use Rattle.engine.specs.declared.bindings.Bindings.{Bindings}
 use Rattle.engine.proofs.Opened.{Opened, opened, not-formula, joined-formula, quantified-formula, compared-formula}
 use Rattle.engine.proofs.Marking.{mark-append, mark-none, mark-place, mark-first, mark-each, mark-none-selected}
 use Rattle.engine.proofs.Steps.{same-true, same-false, connect-open, entry, two, joined-verdict, quantifier, depth-bound, meant-row}
-use Rattle.engine.proofs.Steps.{quantified-verdict, settled-is, body-verdict, ranged-none, ranged-halves, ranged-one, next-place}
+use Rattle.engine.proofs.Steps.{quantified-verdict, settled-is, body-verdict, ranged-none, ranged-row, skip, next-place}
 
 -- ---- a place
 pub mark-one : (p : ℕ) (m : List ℕ) → 0 < p → set m (p - 1) 1 ≡ markAt p m
@@ -363,42 +363,85 @@ module _ (rule pool : List ℕ) (b : Bindings) (e i k : ℕ) (ready : ReadyRows 
           (witness-first q (bodyAt rule pool b e) (rangesAt pool b (entryAt rule e)) pool i k r (omega (arith, r-is)) deciding-place
           (λ j a c. none-at (r - i) (omega (arith, r-is)) j a (omega (arith, r-is))) row-decides (ap (decides q) (sym over-rows) ∙ verdict-decides))))
 
+  -- over n rows from row f on: the first j of them, and those behind
+  module _ (f n j : ℕ) (h : j ≤ n) where
+    parts : rangedFrom rule pool b e f n ≡ rangedFrom rule pool b e f j ++ rangedFrom rule pool b e (f + j) (n - j)
+    parts = select-halves (rangesAt pool b (entryAt rule e)) pool f n j h
+
+    module _ (none : verdictFrom rule pool b e f n ≡ meaning.settled q) where
+      both-settled : meaning.both q (verdictFrom rule pool b e f j) (verdictFrom rule pool b e (f + j) (n - j)) ≡ meaning.settled q
+      both-settled =
+          sym (fold-append q (bodyAt rule pool b e) (rangedFrom rule pool b e f j) (rangedFrom rule pool b e (f + j) (n - j)))
+          ∙ ap (meaning.fold q (bodyAt rule pool b e)) (sym parts) ∙ none
+
+      front-settled : verdictFrom rule pool b e f j ≡ meaning.settled q
+      front-settled = settled-left q (verdictFrom rule pool b e f j) (verdictFrom rule pool b e (f + j) (n - j)) both-settled
+
+      back-settled : verdictFrom rule pool b e (f + j) (n - j) ≡ meaning.settled q
+      back-settled = settled-right q (verdictFrom rule pool b e f j) (verdictFrom rule pool b e (f + j) (n - j)) both-settled
+
+    parts-marked : (m m′ m″ : List ℕ) → m′ ≡ markIn pool (reasonFrom rule pool b e f j) m → m″ ≡ markIn pool (reasonFrom rule pool b e (f + j) (n - j)) m′
+        → m″ ≡ markIn pool (reasonFrom rule pool b e f n) m
+    parts-marked m m′ m″ g g′ =
+        g′ ∙ ap (markIn pool (reasonFrom rule pool b e (f + j) (n - j))) g
+        ∙ sym (mark-append (rows pool) (reasonFrom rule pool b e f j) (reasonFrom rule pool b e (f + j) (n - j)) m)
+        ∙ ap (λ (R : List Row). markIn pool R m)
+        (sym (ap (concatMap (withBody rule pool b e)) parts
+        ∙ concatMap-append (withBody rule pool b e) (rangedFrom rule pool b e f j) (rangedFrom rule pool b e (f + j) (n - j))))
+
   -- the rows of a quantifier that none of them decides, from the first one on
   module _ (none : verdictFrom rule pool b e i k ≡ meaning.settled q) (r : ℕ) (r-is : r ≡ i + first (λ (j : ℕ). rangesAt pool b x (rowAt pool (i + j))) k) where
-    pub no-row-marked : i + k - r ≡ 0 → (m : List ℕ) → m ≡ markIn pool (reasonFrom rule pool b e i k) m
+    pub no-row-marked : r ≡ i + k → (m : List ℕ) → m ≡ markIn pool (reasonFrom rule pool b e i k) m
     no-row-marked h m =
-        sym (ap (λ (R : List Row). markIn pool (concatMap (withBody rule pool b e) R) m) (ranged-none rule pool b e i k ready x x-is r r-is h) ∙ mark-none (rows pool) m)
+        sym (ap (λ (R : List Row). markIn pool (concatMap (withBody rule pool b e) R) m) (ranged-none rule pool b e i k ready x x-is r r-is (omega arith)) ∙ mark-none (rows pool) m)
 
-    module _ (j : ℕ) (h : j ≤ i + k - r) where
-      halves-settled : meaning.both q (verdictFrom rule pool b e r j) (verdictFrom rule pool b e (r + j) (i + k - r - j)) ≡ meaning.settled q
-      halves-settled =
-          sym (fold-append q (bodyAt rule pool b e) (rangedFrom rule pool b e r j) (rangedFrom rule pool b e (r + j) (i + k - r - j)))
-          ∙ ap (meaning.fold q (bodyAt rule pool b e)) (sym (ranged-halves rule pool b e i k ready x x-is r r-is j h)) ∙ none
+    module _ (more : r ≡ i + k → ⊥) where
+      inside : r < i + k
+      inside = omega (arith, next-place rule pool b e i k ready x x-is r r-is .1)
 
-      pub first-half-settled : verdictFrom rule pool b e r j ≡ meaning.settled q
-      first-half-settled = settled-left q (verdictFrom rule pool b e r j) (verdictFrom rule pool b e (r + j) (i + k - r - j)) halves-settled
+      from-first : rangedFrom rule pool b e r (i + k - r) ≡ rangedFrom rule pool b e i k
+      from-first = skip rule pool b e i k ready x x-is r r-is
 
-      pub second-half-settled : verdictFrom rule pool b e (r + j) (i + k - r - j) ≡ meaning.settled q
-      second-half-settled = settled-right q (verdictFrom rule pool b e r j) (verdictFrom rule pool b e (r + j) (i + k - r - j)) halves-settled
+      all-of-them : verdictFrom rule pool b e r (i + k - r) ≡ meaning.settled q
+      all-of-them = ap (meaning.fold q (bodyAt rule pool b e)) from-first ∙ none
 
-      pub halves-marked : (m m′ m″ : List ℕ) → m′ ≡ markIn pool (reasonFrom rule pool b e r j) m → m″ ≡ markIn pool (reasonFrom rule pool b e (r + j) (i + k - r - j)) m′
-          → m″ ≡ markIn pool (reasonFrom rule pool b e i k) m
-      halves-marked m m′ m″ f g =
-          g ∙ ap (markIn pool (reasonFrom rule pool b e (r + j) (i + k - r - j))) f
-          ∙ sym (mark-append (rows pool) (reasonFrom rule pool b e r j) (reasonFrom rule pool b e (r + j) (i + k - r - j)) m)
-          ∙ ap (λ (R : List Row). markIn pool R m)
-          (sym (ap (concatMap (withBody rule pool b e)) (ranged-halves rule pool b e i k ready x x-is r r-is j h)
-          ∙ concatMap-append (withBody rule pool b e) (rangedFrom rule pool b e r j) (rangedFrom rule pool b e (r + j) (i + k - r - j))))
+      behind-it : verdictFrom rule pool b e (r + 1) (i + k - r - 1) ≡ meaning.settled q
+      behind-it = back-settled r (i + k - r) 1 (omega (arith, inside)) all-of-them
 
-    module _ (one : i + k - r ≡ 1) (b′ : Bindings) (b-is : b′ ≡ bindAt b (r + 1)) where
-      pub one-verdict : eqb (x .kind) 5 ≡ verdictAt rule pool b′ (x .a)
-      one-verdict =
-          settled-is rule pool b e i k ready x x-is
-          ∙ sym (body-verdict rule pool b e i k ready x x-is r (omega (arith, ready .place)) b′ b-is
-          ∙ sym (fold-one q (bodyAt rule pool b e) (rowAt pool r))
-          ∙ ap (meaning.fold q (bodyAt rule pool b e)) (sym (ranged-one rule pool b e i k ready x x-is r r-is one)) ∙ none)
+      module _ (b′ : Bindings) (b-is : b′ ≡ bindAt b (r + 1)) where
+        pub first-verdict : eqb (x .kind) 5 ≡ verdictAt rule pool b′ (x .a)
+        first-verdict =
+            settled-is rule pool b e i k ready x x-is
+            ∙ sym (body-verdict rule pool b e i k ready x x-is r (omega (arith, inside, ready .place)) b′ b-is
+            ∙ sym (fold-one q (bodyAt rule pool b e) (rowAt pool r))
+            ∙ ap (meaning.fold q (bodyAt rule pool b e)) (sym (ranged-row rule pool b e i k ready x x-is r r-is more))
+            ∙ front-settled r (i + k - r) 1 (omega (arith, inside)) all-of-them)
 
-      pub one-marked : (m m′ : List ℕ) → m′ ≡ markIn pool (reasonAt rule pool b′ (x .a)) (set m r 1) → m′ ≡ markIn pool (reasonFrom rule pool b e i k) m
-      one-marked m m′ h =
-          h ∙ row-marked r (omega (arith, next-place rule pool b e i k ready x x-is r r-is .1, ready .place)) b′ b-is m
-          ∙ ap (λ (R : List Row). markIn pool (concatMap (withBody rule pool b e) R) m) (sym (ranged-one rule pool b e i k ready x x-is r r-is one))
+        first-row-marked : (m m′ : List ℕ) → m′ ≡ markIn pool (reasonAt rule pool b′ (x .a)) (set m r 1) → m′ ≡ markIn pool (reasonFrom rule pool b e r 1) m
+        first-row-marked m m′ h =
+            h ∙ row-marked r (omega (arith, inside, ready .place)) b′ b-is m
+            ∙ ap (λ (R : List Row). markIn pool (concatMap (withBody rule pool b e) R) m) (sym (ranged-row rule pool b e i k ready x x-is r r-is more))
+
+        pub last-marked : i + k - r - 1 ≡ 0 → (m m′ : List ℕ) → m′ ≡ markIn pool (reasonAt rule pool b′ (x .a)) (set m r 1) → m′ ≡ markIn pool (reasonFrom rule pool b e i k) m
+        unfolding rowsFrom
+        last-marked l m m′ h =
+            parts-marked r (i + k - r) 1 (omega (arith, inside)) m m′ m′ (first-row-marked m m′ h)
+            (sym (ap (λ (n : ℕ). markIn pool (reasonFrom rule pool b e (r + 1) n) m′) l ∙ mark-none (rows pool) m′))
+            ∙ ap (λ (R : List Row). markIn pool (concatMap (withBody rule pool b e) R) m) from-first
+
+      module _ (j : ℕ) (l : j ≤ i + k - r - 1) where
+        pub near-settled : verdictFrom rule pool b e (r + 1) j ≡ meaning.settled q
+        near-settled = front-settled (r + 1) (i + k - r - 1) j l behind-it
+
+        pub far-settled : verdictFrom rule pool b e (r + 1 + j) (i + k - r - 1 - j) ≡ meaning.settled q
+        far-settled = back-settled (r + 1) (i + k - r - 1) j l behind-it
+
+        pub rows-marked : (b′ : Bindings) → b′ ≡ bindAt b (r + 1) → (m m′ m″ m‴ : List ℕ)
+            → m′ ≡ markIn pool (reasonAt rule pool b′ (x .a)) (set m r 1)
+            → m″ ≡ markIn pool (reasonFrom rule pool b e (r + 1) j) m′
+            → m‴ ≡ markIn pool (reasonFrom rule pool b e (r + 1 + j) (i + k - r - 1 - j)) m″
+            → m‴ ≡ markIn pool (reasonFrom rule pool b e i k) m
+        rows-marked b′ b-is m m′ m″ m‴ f g h =
+            parts-marked r (i + k - r) 1 (omega (arith, inside)) m m′ m‴ (first-row-marked b′ b-is m m′ f)
+            (parts-marked (r + 1) (i + k - r - 1) j l m′ m″ m‴ g h)
+            ∙ ap (λ (R : List Row). markIn pool (concatMap (withBody rule pool b e) R) m) from-first

@@ -3,9 +3,12 @@ pub mod Ranged
 pub mod Falls
 pub mod Bound
 pub mod Opened
+pub mod Seeking
+pub mod Noting
 pub mod Runs
 pub mod Steps
 pub mod Marking
+pub mod Wholes
 pub mod Explained
 pub mod Answered
 pub mod SetBytes

@@ -55,6 +55,27 @@ mark-same A B h [] m = refl
 mark-same A B h (t ∷ T) [] = refl
 mark-same A B h (t ∷ T) (x ∷ m) = ap₂ _∷_ (ap (λ (b : Bool). cond b 1 x) (h t)) (mark-same A B h T m)
 
+-- ---- marking rows again, and in another order
+module _ (T : List Row) (m : List ℕ) where
+  pub mark-twice : (R : List Row) → markRows T R (markRows T R m) ≡ markRows T R m
+  mark-twice R = sym (mark-append T R R m) ∙ mark-same (R ++ R) R (λ t. any-or (sameRow t) R R ∙ go (any (sameRow t) R)) T m
+    where
+      go : (b : Bool) → (b || b) ≡ b
+      go true = refl
+      go false = refl
+
+  pub mark-turned : (R S : List Row) → markRows T R (markRows T S m) ≡ markRows T S (markRows T R m)
+  mark-turned R S =
+      sym (mark-append T S R m)
+      ∙ mark-same (S ++ R) (R ++ S) (λ t. any-or (sameRow t) S R ∙ go (any (sameRow t) S) (any (sameRow t) R) ∙ sym (any-or (sameRow t) R S)) T m
+      ∙ mark-append T R S m
+    where
+      go : (a b : Bool) → (a || b) ≡ (b || a)
+      go true true = refl
+      go true false = refl
+      go false true = refl
+      go false false = refl
+
 -- ---- rows with one reason behind each
 each-any : (R : List Row) (p : Row → Bool) (x : Row) (xs : List Row) → any p (concatMap (λ r. r ∷ R) (x ∷ xs)) ≡ any p ((x ∷ xs) ++ R)
 each-any R p x [] = ap (any p) (append-nil (x ∷ R))
@@ -80,6 +101,12 @@ module _ (p : Row → Bool) where
   none-selected : (xs : List Row) → any p xs ≡ false → select p xs ≡ []
   none-selected [] h = refl
   none-selected (x ∷ xs) h = rw (or-left (p x) (any p xs) h) (none-selected xs (or-right (p x) (any p xs) h))
+
+  pub any-selected : (xs : List Row) → any p (select p xs) ≡ any p xs
+  any-selected [] = refl
+  any-selected (x ∷ xs) = either (p x)
+      (λ h. rw (h, h) refl)
+      (λ h. rw h (any-selected xs))
 
   -- the rows first, then the reason once
   pub mark-each : (T xs R : List Row) (m : List ℕ) → any p xs ≡ true → markRows T R (markRows T (select p xs) m) ≡ markRows T (concatMap (λ r. r ∷ R) (select p xs)) m

@@ -154,6 +154,18 @@ module _ (k : ℕ) (want : Bool) where
       go false false true h = absurd (false≢true h)
       go false false false h = refl
 
+  -- the reason where one side is enough and the left one is not it
+  right-because : Bool·beq want (eqb k 2) ≡ false → (R S : List Row) → because (connectiveOf k) (not (sideFor (connectiveOf k) want)) want R S ≡ S
+  right-because h R S = go (eqb k 2) (eqb k 3) want h
+    where
+      go : (p q w : Bool) → Bool·beq w p ≡ false → because (cond p and (cond q or implies)) (not (sideFor (cond p and (cond q or implies)) w)) w R S ≡ S
+      go true q true h = absurd (true≢false h)
+      go true q false h = refl
+      go false true true h = refl
+      go false true false h = absurd (true≢false h)
+      go false false true h = refl
+      go false false false h = absurd (true≢false h)
+
   both-are-enough : meaning.connect (connectiveOf k) (sideFor (connectiveOf k) want) want ≡ want
   both-are-enough = go (connectiveOf k) want
     where
@@ -244,6 +256,34 @@ module _ (rule pool : List ℕ) (b : Bindings) (e : ℕ) (ready : Ready rule poo
             reason-with β
             ∙ ap₂ (λ (z w : Bool). because (connectiveOf (x .kind)) z w (reason (formulaAt rule (x .a)) (rows pool) (b .depth) β) (reason (formulaAt rule (x .b)) (rows pool) (b .depth) β)) (left-is (left-sure t) β f) (c .sure g β f)
             ∙ both-because (x .kind) want (sym (same-true l (Bool·beq want (eqb (x .kind) 2)) h) ∙ left-sure t) _ _
+
+    -- one side is enough, and the left one is certain not to be it: then the right one's reason is the reason
+    module _ (h : Bool·beq l (Bool·beq want (eqb (x .kind) 2)) ≡ true) (o : (same && not l) ≡ true) where
+      one-enough : Bool·beq want (eqb (x .kind) 2) ≡ false
+      one-enough = go same l (Bool·beq want (eqb (x .kind) 2)) o h
+        where
+          go : (s l z : Bool) → (s && not l) ≡ true → Bool·beq l z ≡ true → z ≡ false
+          go true true z o h = absurd (false≢true o)
+          go true false true o h = absurd (false≢true h)
+          go true false false o h = refl
+          go false l z o h = absurd (false≢true o)
+
+      pub certain-other : (s′ t : Bool) → s′ ≡ sideFor (connectiveOf (x .kind)) want → Certain rule pool b (x .a) (not s′) false t → t ≡ true
+          → (r : Bool) → Certain rule pool b (x .b) want same r → Certain rule pool b e want same r
+      certain-other s′ t s′-is d t-true r c = record {
+        sure = λ g β f. with-bindings β
+            ∙ ap (meaning.connect (connectiveOf (x .kind)) (meaning.holds (formulaAt rule (x .a)) (rows pool) (b .depth) β)) (c .sure g β f)
+            ∙ one-is-enough (x .kind) want one-enough (meaning.holds (formulaAt rule (x .a)) (rows pool) (b .depth) β) .0;
+        alike = λ g u β f. reason-right g β f ∙ c .alike g u β f ∙ sym (reason-right g (meant pool b) (fits-meant pool b));
+      }
+        where
+          reason-right : r ≡ true → (β : meaning.Bindings) → Fits pool b β
+              → reason (formulaAt rule e) (rows pool) (b .depth) β ≡ reason (formulaAt rule (x .b)) (rows pool) (b .depth) β
+          reason-right g β f =
+              reason-with β
+              ∙ ap₂ (λ (z w : Bool). because (connectiveOf (x .kind)) z w (reason (formulaAt rule (x .a)) (rows pool) (b .depth) β) (reason (formulaAt rule (x .b)) (rows pool) (b .depth) β))
+              (d .sure t-true β f ∙ ap not s′-is) (c .sure g β f)
+              ∙ right-because (x .kind) want one-enough _ _
 
   pub certain-compared : 7 ≤ x .kind → (r : Bool) → CertainCompared pool b x want r → Certain rule pool b e want same r
   unfolding meaning.holds reason

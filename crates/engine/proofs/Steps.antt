@@ -223,6 +223,21 @@ module _ (rule pool : List ℕ) (b : Bindings) (e i k : ℕ) (ready : ReadyRows 
     pub settled-is : eqb (x .kind) 5 ≡ meaning.settled (quantifierOf (entryAt rule e .kind))
     settled-is = sym (settled-kind (x .kind)) ∙ ap (λ (z : Entry). meaning.settled (quantifierOf (z .kind))) x-is
 
+    -- over n rows from row m on: the first j of them decide, or those behind them do
+    module _ (m n j : ℕ) (h : j ≤ n) (l : Bool) (l-is : l ≡ verdictFrom rule pool b e m j) where
+      halves : verdictFrom rule pool b e m n ≡ meaning.both (quantifierOf (entryAt rule e .kind)) l (verdictFrom rule pool b e (m + j) (n - j))
+      halves =
+          ap (meaning.fold (quantifierOf (entryAt rule e .kind)) (bodyAt rule pool b e)) (select-halves (rangesAt pool b (entryAt rule e)) pool m n j h)
+          ∙ fold-append (quantifierOf (entryAt rule e .kind)) (bodyAt rule pool b e) (rangedFrom rule pool b e m j) (rangedFrom rule pool b e (m + j) (n - j))
+          ∙ ap (λ (z : Bool). meaning.both (quantifierOf (entryAt rule e .kind)) z (verdictFrom rule pool b e (m + j) (n - j))) (sym l-is)
+
+      part-decides : Bool·beq l (eqb (x .kind) 5) ≡ false → l ≡ verdictFrom rule pool b e m n
+      part-decides f = sym (halves ∙ both-decided (quantifierOf (entryAt rule e .kind)) l _ (λ q. same-false l (eqb (x .kind) 5) f (q ∙ sym settled-is)))
+
+      part-open : Bool·beq l (eqb (x .kind) 5) ≡ true → (v : Bool) → v ≡ verdictFrom rule pool b e (m + j) (n - j) → v ≡ verdictFrom rule pool b e m n
+      part-open f v v-is =
+          v-is ∙ sym (halves ∙ both-settled (quantifierOf (entryAt rule e .kind)) l (verdictFrom rule pool b e (m + j) (n - j)) (same-true l (eqb (x .kind) 5) f ∙ settled-is))
+
     -- from the first row that it ranges over
     module _ (r : ℕ) (r-is : r ≡ i + first (λ (j : ℕ). rangesAt pool b x (rowAt pool (i + j))) k) where
       test : ℕ → Bool
@@ -235,7 +250,7 @@ module _ (rule pool : List ℕ) (b : Bindings) (e i k : ℕ) (ready : ReadyRows 
       pub next-place : (i ≤ r) × (r ≤ i + k)
       next-place = (omega (arith, is-first), omega (arith, is-first, first-le test k))
 
-      skip : rangedFrom rule pool b e r (i + k - r) ≡ rangedFrom rule pool b e i k
+      pub skip : rangedFrom rule pool b e r (i + k - r) ≡ rangedFrom rule pool b e i k
       unfolding test
       skip = select-from (rangesAt pool b (entryAt rule e)) pool i k r (next-place .0) (next-place .1)
           (λ j a c. let z : i + (j - i) ≡ j = omega arith in
@@ -255,25 +270,39 @@ module _ (rule pool : List ℕ) (b : Bindings) (e i k : ℕ) (ready : ReadyRows 
       pub ranged-one : i + k - r ≡ 1 → rangedFrom rule pool b e i k ≡ rowAt pool r ∷ []
       ranged-one h = sym skip ∙ ap (λ (n : ℕ). rangedFrom rule pool b e r n) h ∙ select-one (rangesAt pool b (entryAt rule e)) pool r (found (omega arith))
 
-      pub walk-none : i + k - r ≡ 0 → eqb (x .kind) 5 ≡ verdictFrom rule pool b e i k
-      walk-none h = settled-is ∙ sym (ap (meaning.fold (quantifierOf (entryAt rule e .kind)) (bodyAt rule pool b e)) (ranged-none h))
+      pub walk-none : r ≡ i + k → eqb (x .kind) 5 ≡ verdictFrom rule pool b e i k
+      walk-none h = settled-is ∙ sym (ap (meaning.fold (quantifierOf (entryAt rule e .kind)) (bodyAt rule pool b e)) (ranged-none (omega arith)))
 
-      module _ (j : ℕ) (h : j ≤ i + k - r) (l : Bool) (l-is : l ≡ verdictFrom rule pool b e r j) where
-        halves : verdictFrom rule pool b e i k ≡ meaning.both (quantifierOf (entryAt rule e .kind)) l (verdictFrom rule pool b e (r + j) (i + k - r - j))
-        halves =
-            ap (meaning.fold (quantifierOf (entryAt rule e .kind)) (bodyAt rule pool b e)) (ranged-halves j h)
-            ∙ fold-append (quantifierOf (entryAt rule e .kind)) (bodyAt rule pool b e) (rangedFrom rule pool b e r j) (rangedFrom rule pool b e (r + j) (i + k - r - j))
-            ∙ ap (λ (z : Bool). meaning.both (quantifierOf (entryAt rule e .kind)) z (verdictFrom rule pool b e (r + j) (i + k - r - j))) (sym l-is)
+      pub ranged-row : (r ≡ i + k → ⊥) → rangedFrom rule pool b e r 1 ≡ rowAt pool r ∷ []
+      ranged-row h = select-one (rangesAt pool b (entryAt rule e)) pool r (found (omega (arith, next-place .1)))
 
-        pub walk-left : Bool·beq l (eqb (x .kind) 5) ≡ false → l ≡ verdictFrom rule pool b e i k
-        walk-left f = sym (halves ∙ both-decided (quantifierOf (entryAt rule e .kind)) l _ (λ q. same-false l (eqb (x .kind) 5) f (q ∙ sym settled-is)))
+      skipped : verdictFrom rule pool b e r (i + k - r) ≡ verdictFrom rule pool b e i k
+      skipped = ap (meaning.fold (quantifierOf (entryAt rule e .kind)) (bodyAt rule pool b e)) skip
 
-        pub walk-right : Bool·beq l (eqb (x .kind) 5) ≡ true → (v : Bool) → v ≡ verdictFrom rule pool b e (r + j) (i + k - r - j) → v ≡ verdictFrom rule pool b e i k
-        walk-right f v v-is =
-            v-is ∙ sym (halves ∙ both-settled (quantifierOf (entryAt rule e .kind)) l (verdictFrom rule pool b e (r + j) (i + k - r - j)) (same-true l (eqb (x .kind) 5) f ∙ settled-is))
+      -- the body's verdict at that row is that over it alone
+      module _ (h : r ≡ i + k → ⊥) (b′ : Bindings) (b-is : b′ ≡ bindAt b (r + 1)) (v : Bool) (v-is : v ≡ verdictAt rule pool b′ (x .a)) where
+        one : v ≡ verdictFrom rule pool b e r 1
+        one =
+            v-is ∙ body-verdict r (omega (arith, ready .place, next-place .1)) b′ b-is
+            ∙ sym (ap (meaning.fold (quantifierOf (entryAt rule e .kind)) (bodyAt rule pool b e)) (ranged-row h)
+            ∙ fold-one (quantifierOf (entryAt rule e .kind)) (bodyAt rule pool b e) (rowAt pool r))
 
-      pub walk-one : i + k - r ≡ 1 → (b′ : Bindings) → b′ ≡ bindAt b (r + 1) → (v : Bool) → v ≡ verdictAt rule pool b′ (x .a) → v ≡ verdictFrom rule pool b e i k
-      walk-one h b′ b-is v v-is =
-          v-is ∙ body-verdict r (omega (arith, ready .place)) b′ b-is
-          ∙ sym (ap (meaning.fold (quantifierOf (entryAt rule e .kind)) (bodyAt rule pool b e)) (ranged-one h)
-          ∙ fold-one (quantifierOf (entryAt rule e .kind)) (bodyAt rule pool b e) (rowAt pool r))
+        pub walk-first : Bool·beq v (eqb (x .kind) 5) ≡ false → v ≡ verdictFrom rule pool b e i k
+        walk-first f = part-decides r (i + k - r) 1 (omega (arith, next-place .1)) v one f ∙ skipped
+
+        -- where it does not decide, the rows behind it do
+        module _ (g : Bool·beq v (eqb (x .kind) 5) ≡ true) where
+          behind : (w : Bool) → w ≡ verdictFrom rule pool b e (r + 1) (i + k - r - 1) → w ≡ verdictFrom rule pool b e i k
+          behind w w-is = part-open r (i + k - r) 1 (omega (arith, next-place .1)) v one g w w-is ∙ skipped
+
+          pub walk-last : i + k - r - 1 ≡ 0 → eqb (x .kind) 5 ≡ verdictFrom rule pool b e i k
+          unfolding rowsFrom
+          walk-last l = behind (eqb (x .kind) 5) (settled-is ∙ sym (ap (verdictFrom rule pool b e (r + 1)) l))
+
+          module _ (j : ℕ) (l : j ≤ i + k - r - 1) (u : Bool) (u-is : u ≡ verdictFrom rule pool b e (r + 1) j) where
+            pub walk-near : Bool·beq u (eqb (x .kind) 5) ≡ false → u ≡ verdictFrom rule pool b e i k
+            walk-near f = behind u (part-decides (r + 1) (i + k - r - 1) j l u u-is f)
+
+            pub walk-rest : Bool·beq u (eqb (x .kind) 5) ≡ true → (w : Bool)
+                → w ≡ verdictFrom rule pool b e (r + 1 + j) (i + k - r - 1 - j) → w ≡ verdictFrom rule pool b e i k
+            walk-rest f w w-is = behind w (part-open (r + 1) (i + k - r - 1) j l u u-is f w w-is)

@@ -23,40 +23,6 @@ use Rattle.logic.specs.Verdict.{named}
 use Rattle.engine.specs.Touching.{OnWay, own, up, notedOnWay, WayUp, depthUnder, depthOf, Lands}
 use Rattle.engine.specs.declared.touching.Way.{Way}
 
--- ---- the row above: it is not behind the rows looked at
--- row i or one before it is the parent
-pub record Searched (t : List ℕ) (row i : ℕ) : Type 0 where
-  pub parent : ℕ
-  pub not-behind : parent ≤ i
-  pub is-parent : isParent (rowAt t row) (rowAt t parent) ≡ true
-  pub before : i < row
-
-module _ (t : List ℕ) (row : ℕ) where
-  pub search-begin : acceptedTable t ≡ true → row < rowCount t → root (rowAt t row) ≡ false → Searched t row (row - 1)
-  search-begin ok h e =
-      let p = has-parent t ok row h e in
-      record { parent = p .0; not-behind = omega (arith, p .1); is-parent = p .2; before = omega (arith, p .1) }
-
-  pub not-first : acceptedTable t ≡ true → row < rowCount t → root (rowAt t row) ≡ false → 1 ≤ row
-  not-first ok h e = let p = has-parent t ok row h e in omega (arith, p .1)
-
-  module _ {i : ℕ} (s : Searched t row i) {r c : Row} (r-is : r ≡ rowAt t i) (c-is : c ≡ rowAt t row) {b : Bool} (b-is : b ≡ isParent c r) where
-    here : b ≡ isParent (rowAt t row) (rowAt t i)
-    here = b-is ∙ ap₂ isParent c-is r-is
-
-    pub found-it : not b ≡ false → (i < row) × (isParent (rowAt t row) (rowAt t i) ≡ true)
-    found-it e = (s .before, sym here ∙ not-false b e)
-
-    module _ (e : not b ≡ true) where
-      pub not-there : s .parent < i
-      not-there = ⊎-elim
-          (λ q. absurd (true≢false (sym (s .is-parent) ∙ ap (λ (k : ℕ). isParent (rowAt t row) (rowAt t k)) q ∙ sym here ∙ not-true b e)))
-          (λ l. l)
-          (eq-or-lt-of-le (s .not-behind))
-
-      pub search-more : Searched t row (i - 1)
-      search-more = record { parent = s .parent; not-behind = omega (arith, not-there); is-parent = s .is-parent; before = omega (arith, s .before, not-there) }
-
 -- ---- the rows noted: those on the way up to row i, and the rest of the way goes on above it
 module _ (t : List ℕ) (row : ℕ) where
   abbrev Noted : List ℕ → ℕ → Type 0

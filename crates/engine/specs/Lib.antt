@@ -1,5 +1,6 @@
 pub mod Places
 pub mod Ready
+pub mod Runs
 pub mod Marked
 pub mod Settling
 pub mod Touching

@@ -1,13 +1,13 @@
 -- What the private functions that mark rows promise. A reader of the public contracts need not believe it. Assumes nothing.
 use Prim.Native.Nat.{ℕ, zero, suc, _<_, _≤_}
 use mathlib.Core.Path.{_≡_}
-use mathlib.Core.Bool.{Bool, not, cond, _&&_}
+use mathlib.Core.Bool.{Bool, true, not, cond, _&&_}
 use mathlib.Core.List.{List, [], _∷_}
 use lib.ListN.{getD, set}
 use lib.Dec.{eqb}
-use Rattle.base.specs.Lists.{any, concatMap}
+use Rattle.base.specs.Lists.{any, select, concatMap}
 use Rattle.tables.specs.Words.{rowAt, rows, entryAt, entryCount}
-use Rattle.tables.specs.Tables.{sameRow}
+use Rattle.tables.specs.Tables.{root, sameRow}
 use Rattle.tables.specs.Rules.{around}
 use Rattle.tables.specs.declared.Row.{Row}
 use Rattle.tables.specs.declared.Entry.{Entry}
@@ -26,6 +26,14 @@ markRows (t ∷ T) R (x ∷ m) = cond (any (sameRow t) R) 1 x ∷ markRows T R m
 -- the pool's bytes m with 1 at each of its rows that is among R
 abbrev pub markIn : List ℕ → List Row → List ℕ → List ℕ
 markIn pool R m = markRows (rows pool) R m
+
+-- a root that passes a name test
+abbrev pub rootNamed : ℕ → Row → Bool
+rootNamed n r = root r && meaning.named n r
+
+-- what is marked whole in the bytes m: 0 for nothing, else 1 + a name; some roots pass its test, and marking them changes nothing
+abbrev pub MarkedWhole : List ℕ → ℕ → List ℕ → Type 0
+MarkedWhole pool w m = (n : ℕ) → w ≡ suc n → (any (rootNamed n) (rows pool) ≡ true) × (markIn pool (select (rootNamed n) (rows pool)) m ≡ m)
 
 -- the bytes m with 1 at a place of the bindings
 abbrev pub markAt : ℕ → List ℕ → List ℕ

@@ -1,7 +1,7 @@
 -- What the engine's private functions require and promise. A reader of the public contracts need not believe it. Assumes nothing.
 use Prim.Native.Nat.{ℕ, zero, suc, _+_, _<_, _≤_}
 use mathlib.Core.Path.{_≡_}
-use mathlib.Core.Bool.{Bool, true, not, cond, _&&_}
+use mathlib.Core.Bool.{Bool, true, cond, _&&_}
 use mathlib.Core.List.{List}
 use lib.ListN.{length, getD}
 use lib.Dec.{eqb}
@@ -59,10 +59,6 @@ rangedAt pool place n i = hangsAt pool place (rowAt pool i) && meaning.named n (
 -- a quantifier's entry ranges over a row
 abbrev pub rangesAt : List ℕ → Bindings → Entry → Row → Bool
 rangesAt pool b e r = meaning.ranges (overOf (e .b)) (e .c) (meant pool b) r
-
--- row i is of another device
-abbrev pub otherDevice : List ℕ → ℕ → ℕ → Bool
-otherDevice pool d i = not (eqb (rowAt pool i .device) d)
 
 -- it ranges over no row but some of the k from row i on
 pub record Covers (pool : List ℕ) (b : Bindings) (e : Entry) (i k : ℕ) : Type 0 where

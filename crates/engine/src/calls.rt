@@ -1,5 +1,6 @@
 // The calls: the verdict and the marks of a rule on a pool, and the verdicts of a set of rules.
 use super::bindings::Bindings;
+use super::children::find_runs;
 use super::evaluator::holds;
 use super::reasons::explain;
 use super::verdicts::one_if;
@@ -8,6 +9,7 @@ use super::words::row_count;
 use sets::SET_LIMIT;
 use sets::check_set;
 use tables::Answer;
+use tables::ROW_LIMIT;
 use tables::check_rule;
 use tables::check_table;
 ghost use mathlib.Core.Path.{_≡_};
@@ -35,7 +37,12 @@ pub fn verdict(rule: &[u32], pool: &[u32]) -> Answer
 {
     let answer = then_table(check_rule(rule), pool);
     match answer {
-        Answer::Done(_) => Answer::Done(one_if(holds(rule, pool, Bindings::none(), 0))),
+        Answer::Done(_) => {
+            let mut starts = [0u16; ROW_LIMIT];
+            let mut ends = [0u16; ROW_LIMIT];
+            find_runs(pool, &mut starts, &mut ends);
+            Answer::Done(one_if(holds(rule, pool, &starts, &ends, Bindings::none(), 0)))
+        }
         Answer::Refused { number, place } => Answer::Refused { number, place },
     }
 }
@@ -68,9 +75,12 @@ pub fn marks(rule: &[u32], pool: &[u32], out: &mut [u8]) -> Answer
                 };
             }
             clear(out, n);
+            let mut starts = [0u16; ROW_LIMIT];
+            let mut ends = [0u16; ROW_LIMIT];
+            find_runs(pool, &mut starts, &mut ends);
             let b = Bindings::none();
-            let verdict = holds(rule, pool, b, 0);
-            explain(rule, pool, b, 0, verdict, out);
+            let verdict = holds(rule, pool, &starts, &ends, b, 0);
+            explain(rule, pool, &starts, &ends, b, 0, verdict, 0, out);
             Answer::Done(one_if(verdict))
         }
         Answer::Refused { number, place } => Answer::Refused { number, place },

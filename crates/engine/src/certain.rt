@@ -1,20 +1,20 @@
 // What is certain of an entry while some variables are unknown: their place is nothing. It settles a quantifier before its rows are
 // walked, and tells a body whose reason is the same at all of them.
 use super::bindings::Bindings;
+use super::children::children_run;
 use super::comparisons::compared;
 use super::connectives::side;
 use super::ranges::next_ranged;
 use super::ranges::run_of;
 use super::words::entry_at;
 use super::words::place_of;
-use super::words::row_at;
-use super::words::row_count;
 use tables::Entry;
 ghost use mathlib.Core.Path.{_≡_};
 ghost use Prim.Native.Nat.{_<_, _≤_};
 ghost use Rattle.tables.specs.Rules.{nestingLimit};
 ghost use Rattle.engine.specs.Ready.{Placed, Ready, ReadyRows};
 ghost use Rattle.engine.specs.Settling.{CertainCompared, KnownParent, Steady, Certain, CertainRows, KnownRows, Settles};
+ghost use Rattle.engine.specs.Runs.{Runs};
 ghost use Rattle.tables.specs.Words.{rowCount};
 
 // Whether a comparison has the wanted verdict whatever rows the unknown variables have.
@@ -38,20 +38,26 @@ fn sure_compared(pool: &[u32], b: Bindings, e: Entry, want: bool) -> bool
     compared(pool, b, e) == want
 }
 
-// Whether the device of the row at a place has fewer than 64 rows behind it.
-fn is_short(pool: &[u32], place: usize) -> bool
+// Whether the children of the row at a place stand within fewer than 64 rows.
+fn is_short(pool: &[u32], starts: &[u16], ends: &[u16], place: usize) -> bool
     requires { ⌜ (0 < place) × (place ≤ rowCount (now pool)) ⌝ }
+    requires { ⌜ Runs (now pool) (now starts) (now ends) ⌝ }
 {
-    if row_count(pool) < place + 64 {
-        return true;
-    }
-    row_at(pool, place + 63).device != row_at(pool, place - 1).device
+    children_run(pool, starts, ends, place).rows < 64
 }
 
 // Whether the rows that a quantifier ranges over are known, and few enough to be read ahead.
-fn reads_ahead(pool: &[u32], b: Bindings, e: Entry, effort: usize) -> bool
+fn reads_ahead(
+    pool: &[u32],
+    starts: &[u16],
+    ends: &[u16],
+    b: Bindings,
+    e: Entry,
+    effort: usize,
+) -> bool
     requires { ⌜ Placed (now pool) b ⌝ }
     requires { ⌜ e .b ≤ nestingLimit ⌝ }
+    requires { ⌜ Runs (now pool) (now starts) (now ends) ⌝ }
     ensures { λ r. ⌜ KnownParent b e r ⌝ }
 {
     let under = e.b as usize;
@@ -65,7 +71,7 @@ fn reads_ahead(pool: &[u32], b: Bindings, e: Entry, effort: usize) -> bool
     if effort == 0 {
         return false;
     }
-    is_short(pool, place)
+    is_short(pool, starts, ends, place)
 }
 
 // If one reason is asked: whether, with the wanted verdict, it is every row that a quantifier ranges over, and these rows are known.
@@ -91,6 +97,8 @@ fn is_steady(b: Bindings, e: Entry, want: bool, same: bool) -> bool
 fn sure(
     rule: &[u32],
     pool: &[u32],
+    starts: &[u16],
+    ends: &[u16],
     b: Bindings,
     entry: usize,
     want: bool,
@@ -98,34 +106,53 @@ fn sure(
     effort: usize,
 ) -> bool
     requires { ⌜ Ready (now rule) (now pool) b entry ⌝ }
+    requires { ⌜ Runs (now pool) (now starts) (now ends) ⌝ }
     ensures { λ r. ⌜ Certain (now (rule .entry)) (now (pool .entry)) b entry want same r ⌝ }
 {
     let e = entry_at(rule, entry);
     let a = e.a as usize;
     if e.kind == 1 {
-        return sure(rule, pool, b, a, !want, same, effort);
+        return sure(rule, pool, starts, ends, b, a, !want, same, effort);
     }
     if e.kind < 5 {
-        let left = sure(rule, pool, b, a, side(e.kind, want), same, effort);
+        let second = e.b as usize;
+        let decides = side(e.kind, want);
+        let left = sure(rule, pool, starts, ends, b, a, decides, same, effort);
         let both = want == (e.kind == 2);
-        if left == both {
-            if same & !left {
-                return false;
-            }
-            return sure(rule, pool, b, e.b as usize, want, same, effort);
+        if left != both {
+            return left;
         }
-        return left;
+        if same & !left {
+            // The right side has the reason where the left one is sure not to decide.
+            if sure(rule, pool, starts, ends, b, a, !decides, false, effort) {
+                return sure(rule, pool, starts, ends, b, second, want, same, effort);
+            }
+            return false;
+        }
+        return sure(rule, pool, starts, ends, b, second, want, same, effort);
     }
     if e.kind < 7 {
         if !is_steady(b, e, want, same) {
             return false;
         }
-        if reads_ahead(pool, b, e, effort) {
-            let r = run_of(pool, b, e);
-            return scan(rule, pool, b, entry, want, same, effort, r.start, r.rows);
+        if reads_ahead(pool, starts, ends, b, e, effort) {
+            let r = run_of(pool, starts, ends, b, e);
+            return scan(
+                rule,
+                pool,
+                starts,
+                ends,
+                b,
+                entry,
+                want,
+                same,
+                effort,
+                r.start,
+                r.rows,
+            );
         }
         if want == (e.kind == 5) {
-            return sure(rule, pool, b.bind(0), a, want, same, effort);
+            return sure(rule, pool, starts, ends, b.bind(0), a, want, same, effort);
         }
         return false;
     }
@@ -136,6 +163,8 @@ fn sure(
 fn scan(
     rule: &[u32],
     pool: &[u32],
+    starts: &[u16],
+    ends: &[u16],
     b: Bindings,
     entry: usize,
     want: bool,
@@ -145,6 +174,7 @@ fn scan(
     rows: usize,
 ) -> bool
     requires { ⌜ KnownRows (now rule) (now pool) b entry row rows ⌝ }
+    requires { ⌜ Runs (now pool) (now starts) (now ends) ⌝ }
     ensures { λ r. ⌜ CertainRows (now (rule .entry)) (now (pool .entry)) b entry want same row rows r ⌝ }
 {
     let e = entry_at(rule, entry);
@@ -156,11 +186,25 @@ fn scan(
     }
     if 1 < left {
         let half = left / 2;
-        let known = scan(rule, pool, b, entry, want, same, effort, first, half);
+        let known = scan(
+            rule,
+            pool,
+            starts,
+            ends,
+            b,
+            entry,
+            want,
+            same,
+            effort,
+            first,
+            half,
+        );
         if known == all {
             return scan(
                 rule,
                 pool,
+                starts,
+                ends,
                 b,
                 entry,
                 want,
@@ -175,6 +219,8 @@ fn scan(
     sure(
         rule,
         pool,
+        starts,
+        ends,
         b.bind(first + 1),
         e.a as usize,
         want,
@@ -184,9 +230,10 @@ fn scan(
 }
 
 // Whether a quantifier's rows may be many and do not hang on the innermost variable, so that settling it at once may pay.
-fn is_wide(pool: &[u32], b: Bindings, e: Entry) -> bool
+fn is_wide(pool: &[u32], starts: &[u16], ends: &[u16], b: Bindings, e: Entry) -> bool
     requires { ⌜ Placed (now pool) b ⌝ }
     requires { ⌜ e .b ≤ nestingLimit ⌝ }
+    requires { ⌜ Runs (now pool) (now starts) (now ends) ⌝ }
 {
     let under = e.b as usize;
     if under == b.depth as usize {
@@ -199,7 +246,7 @@ fn is_wide(pool: &[u32], b: Bindings, e: Entry) -> bool
     if place == 0 {
         return false;
     }
-    !is_short(pool, place)
+    !is_short(pool, starts, ends, place)
 }
 
 // Whether a quantifier is settled before its rows are walked, and, if `same` is asked, its body has one reason at all of them: the one
@@ -207,16 +254,29 @@ fn is_wide(pool: &[u32], b: Bindings, e: Entry) -> bool
 pub(crate) fn settled_before(
     rule: &[u32],
     pool: &[u32],
+    starts: &[u16],
+    ends: &[u16],
     b: Bindings,
     entry: usize,
     same: bool,
 ) -> bool
     requires { ⌜ ReadyRows (now rule) (now pool) b entry 0 0 ⌝ }
+    requires { ⌜ Runs (now pool) (now starts) (now ends) ⌝ }
     ensures { λ r. ⌜ Settles (now (rule .entry)) (now (pool .entry)) b entry same r ⌝ }
 {
     let e = entry_at(rule, entry);
-    if is_wide(pool, b, e) {
-        return sure(rule, pool, b.bind(0), e.a as usize, e.kind == 5, same, 1);
+    if is_wide(pool, starts, ends, b, e) {
+        return sure(
+            rule,
+            pool,
+            starts,
+            ends,
+            b.bind(0),
+            e.a as usize,
+            e.kind == 5,
+            same,
+            1,
+        );
     }
     false
 }

@@ -2,9 +2,11 @@
 mod bindings;
 mod calls;
 mod certain;
+mod children;
 mod comparisons;
 mod connectives;
 mod evaluator;
+mod parents;
 mod ranges;
 mod reasons;
 mod touching;

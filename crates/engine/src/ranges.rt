@@ -1,5 +1,7 @@
 // The rows that a quantifier ranges over, and its name test.
 use super::bindings::Bindings;
+use super::children::Run;
+use super::children::children_run;
 use super::words::place_of;
 use super::words::row_at;
 use super::words::row_count;
@@ -8,14 +10,13 @@ use tables::Entry;
 use tables::Row;
 use tables::is_parent;
 ghost use mathlib.Core.Path.{_≡_};
-ghost use mathlib.Core.Bool.{true};
-ghost use Prim.Native.Nat.{ℕ, _+_, _-_, _<_, _≤_};
+ghost use Prim.Native.Nat.{ℕ, _+_, _<_, _≤_};
 ghost use Rattle.base.specs.Search.{first};
 ghost use Rattle.tables.specs.Words.{rowAt, rowCount};
 ghost use Rattle.tables.specs.Rules.{nestingLimit};
-ghost use Rattle.tables.specs.Tables.{acceptedTable};
 ghost use Rattle.logic.specs.Verdict.{named};
-ghost use Rattle.engine.specs.Ready.{Placed, hangsAt, rangedAt, rangesAt, otherDevice, Covers};
+ghost use Rattle.engine.specs.Ready.{Placed, hangsAt, rangedAt, rangesAt, Covers};
+ghost use Rattle.engine.specs.Runs.{Runs};
 
 // A quantifier's name test, for collector and switch.
 pub fn is_named(name: u32, r: Row) -> bool
@@ -97,32 +98,11 @@ pub(crate) fn next_ranged(pool: &[u32], b: Bindings, e: Entry, row: usize, rows:
     next_at(pool, place, e.c, row, rows)
 }
 
-// The first row from `row` on that is not of the device, or the end.
-fn device_end(pool: &[u32], device: u32, row: usize) -> usize
-    requires { ⌜ row ≤ rowCount (now pool) ⌝ }
-    ensures { λ r. ⌜ r ≡ row + first (λ (j : ℕ). otherDevice (now (pool .entry)) device (row + j)) (rowCount (now (pool .entry)) - row) ⌝ }
-{
-    let left = row_count(pool) - row;
-    let mut i = 0;
-    while i < left {
-        if row_at(pool, row + i).device != device {
-            return row + i;
-        }
-        i += 1;
-    }
-    row + left
-}
-
-// A run of rows.
-pub(crate) struct Run {
-    pub start: usize,
-    pub rows: usize,
-}
-
-// A run of rows outside which the quantifier of an entry ranges over none: all rows, or those of the bound row's device behind it.
-pub(crate) fn run_of(pool: &[u32], b: Bindings, e: Entry) -> Run
+// A run of rows outside which the quantifier of an entry ranges over none: all rows, or that of the bound row's children.
+pub(crate) fn run_of(pool: &[u32], starts: &[u16], ends: &[u16], b: Bindings, e: Entry) -> Run
     requires { ⌜ Placed (now pool) b ⌝ }
-    requires { ⌜ (acceptedTable (now pool) ≡ true) × (e .b ≤ nestingLimit) ⌝ }
+    requires { ⌜ e .b ≤ nestingLimit ⌝ }
+    requires { ⌜ Runs (now pool) (now starts) (now ends) ⌝ }
     ensures { λ r. ⌜ Covers (now (pool .entry)) b e (r .start) (r .rows) ⌝ }
 {
     let under = e.b as usize;
@@ -136,9 +116,5 @@ pub(crate) fn run_of(pool: &[u32], b: Bindings, e: Entry) -> Run
     if place == 0 {
         return Run { start: 0, rows: 0 };
     }
-    let end = device_end(pool, row_at(pool, place - 1).device, place);
-    Run {
-        start: place,
-        rows: end - place,
-    }
+    children_run(pool, starts, ends, place)
 }

@@ -20,8 +20,9 @@ ghost use Rattle.tables.specs.Words.{entryAt, entryCount, rowCount, rowsFrom};
 ghost use Rattle.tables.specs.Rules.{nestingLimit, acceptedRule};
 ghost use Rattle.tables.specs.Tables.{acceptedTable};
 ghost use Rattle.logic.specs.Verdict.{settled};
-ghost use Rattle.engine.specs.Ready.{quantifierOf, Placed, rangesAt, Ready, ReadyRows, verdictAt, verdictFrom};
-ghost use Rattle.engine.specs.Marked.{Under, markIn, markAt, markCompared, reasonAt, reasonFrom, decidesAt};
+ghost use Rattle.engine.specs.Ready.{quantifierOf, Placed, rangesAt, Covers, Ready, ReadyRows, verdictAt, verdictFrom};
+ghost use Rattle.engine.specs.Marked.{Under, markIn, markAt, markCompared, MarkedWhole, reasonAt, reasonFrom, decidesAt};
+ghost use Rattle.engine.specs.Runs.{Runs};
 
 // Marks the row at a place.
 fn mark(place: usize, out: &mut [u8])
@@ -74,14 +75,60 @@ fn mark_ranged(pool: &[u32], b: Bindings, e: Entry, row: usize, rows: usize, out
     found
 }
 
+// Whether a quantifier ranges over rows, and what is marked whole.
+pub(crate) struct Whole {
+    pub found: bool,
+    pub whole: usize,
+}
+
+// The same, and what is then marked whole; the roots of a name that are marked already aren't looked at again.
+fn mark_whole(
+    pool: &[u32],
+    b: Bindings,
+    e: Entry,
+    row: usize,
+    rows: usize,
+    whole: usize,
+    out: &mut [u8],
+) -> Whole
+    requires { ⌜ Placed (now pool) b ⌝ }
+    requires { ⌜ (acceptedTable (now pool) ≡ true) × (e .b ≤ nestingLimit) ⌝ }
+    requires { ⌜ rowCount (now pool) ≤ length (now out) ⌝ }
+    requires { ⌜ Covers (now pool) b e row rows ⌝ }
+    requires { ⌜ MarkedWhole (now pool) whole (now out) ⌝ }
+    ensures { λ r. ⌜ r .found ≡ any (rangesAt (now (pool .entry)) b e) (rowsFrom (now (pool .entry)) row rows) ⌝ }
+    ensures { λ _. ⌜ now (out .exit) ≡ markIn (now (pool .entry)) (select (rangesAt (now (pool .entry)) b e) (rowsFrom (now (pool .entry)) row rows)) (now (out .entry)) ⌝ }
+    ensures { λ r. ⌜ MarkedWhole (now (pool .entry)) (r .whole) (now (out .exit)) ⌝ }
+{
+    let roots = e.b == 0;
+    let own = e.c as usize + 1;
+    if roots & (whole == own) {
+        return Whole { found: true, whole };
+    }
+    let found = mark_ranged(pool, b, e, row, rows, out);
+    if roots & found {
+        return Whole { found, whole: own };
+    }
+    Whole { found, whole }
+}
+
 // Whether a quantifier's entry ranges over a row and is decided there.
-fn decides(rule: &[u32], pool: &[u32], b: Bindings, entry: usize, row: usize) -> bool
+fn decides(
+    rule: &[u32],
+    pool: &[u32],
+    starts: &[u16],
+    ends: &[u16],
+    b: Bindings,
+    entry: usize,
+    row: usize,
+) -> bool
     requires { ⌜ ReadyRows (now rule) (now pool) b entry row 1 ⌝ }
+    requires { ⌜ Runs (now pool) (now starts) (now ends) ⌝ }
     ensures { λ r. ⌜ r ≡ decidesAt (now (rule .entry)) (now (pool .entry)) b entry row ⌝ }
 {
     let e = entry_at(rule, entry);
     if ranges(pool, b, e, row) {
-        let verdict = holds(rule, pool, b.bind(row + 1), e.a as usize);
+        let verdict = holds(rule, pool, starts, ends, b.bind(row + 1), e.a as usize);
         return verdict != (e.kind == 5);
     }
     false
@@ -91,17 +138,20 @@ fn decides(rule: &[u32], pool: &[u32], b: Bindings, entry: usize, row: usize) ->
 fn first_deciding(
     rule: &[u32],
     pool: &[u32],
+    starts: &[u16],
+    ends: &[u16],
     b: Bindings,
     entry: usize,
     row: usize,
     rows: usize,
 ) -> usize
     requires { ⌜ ReadyRows (now rule) (now pool) b entry row rows ⌝ }
+    requires { ⌜ Runs (now pool) (now starts) (now ends) ⌝ }
     ensures { λ r. ⌜ r ≡ row + first (λ (j : ℕ). decidesAt (now (rule .entry)) (now (pool .entry)) b entry (row + j)) rows ⌝ }
 {
     let mut i = 0;
     while i < rows {
-        if decides(rule, pool, b, entry, row + i) {
+        if decides(rule, pool, starts, ends, b, entry, row + i) {
             return row + i;
         }
         i += 1;
@@ -133,18 +183,24 @@ fn past_nots(rule: &[u32], entry: usize, verdict: bool) -> Judged
     }
 }
 
-// Marks the reason of an entry with that verdict.
+// Marks the reason of an entry with that verdict. What is marked whole goes in and comes back.
 pub(crate) fn explain(
     rule: &[u32],
     pool: &[u32],
+    starts: &[u16],
+    ends: &[u16],
     b: Bindings,
     entry: usize,
     verdict: bool,
+    whole: usize,
     out: &mut [u8],
-)
+) -> usize
     requires { ⌜ Ready (now rule) (now pool) b entry ⌝ }
     requires { ⌜ (verdict ≡ verdictAt (now rule) (now pool) b entry) × (rowCount (now pool) ≤ length (now out)) ⌝ }
+    requires { ⌜ Runs (now pool) (now starts) (now ends) ⌝ }
+    requires { ⌜ MarkedWhole (now pool) whole (now out) ⌝ }
     ensures { λ _. ⌜ now (out .exit) ≡ markIn (now (pool .entry)) (reasonAt (now (rule .entry)) (now (pool .entry)) b entry) (now (out .entry)) ⌝ }
+    ensures { λ r. ⌜ MarkedWhole (now (pool .entry)) r (now (out .exit)) ⌝ }
 {
     let bare = past_nots(rule, entry, verdict);
     let at = bare.entry;
@@ -154,71 +210,123 @@ pub(crate) fn explain(
     if e.kind < 5 {
         let second = e.b as usize;
         if verdict == (e.kind == 2) {
-            explain(rule, pool, b, a, side(e.kind, verdict), out);
-            explain(rule, pool, b, second, verdict, out);
-            return;
+            let first = side(e.kind, verdict);
+            let before = explain(rule, pool, starts, ends, b, a, first, whole, out);
+            return explain(rule, pool, starts, ends, b, second, verdict, before, out);
         }
-        let left = holds(rule, pool, b, a);
+        let left = holds(rule, pool, starts, ends, b, a);
         if left_decides(e.kind, left) {
-            explain(rule, pool, b, a, left, out);
-            return;
+            return explain(rule, pool, starts, ends, b, a, left, whole, out);
         }
-        explain(rule, pool, b, second, verdict, out);
-        return;
+        return explain(rule, pool, starts, ends, b, second, verdict, whole, out);
     }
     if e.kind < 7 {
-        let r = run_of(pool, b, e);
+        let r = run_of(pool, starts, ends, b, e);
         if verdict == (e.kind == 5) {
-            if settled_before(rule, pool, b, at, true) {
-                if mark_ranged(pool, b, e, r.start, r.rows, out) {
-                    explain(rule, pool, b.bind(0), a, verdict, out);
+            if settled_before(rule, pool, starts, ends, b, at, true) {
+                let all = mark_whole(pool, b, e, r.start, r.rows, whole, out);
+                if all.found {
+                    return explain(
+                        rule,
+                        pool,
+                        starts,
+                        ends,
+                        b.bind(0),
+                        a,
+                        verdict,
+                        all.whole,
+                        out,
+                    );
                 }
-                return;
+                return all.whole;
             }
-            explain_rows(rule, pool, b, at, r.start, r.rows, out);
-            return;
+            return explain_rows(rule, pool, starts, ends, b, at, r.start, r.rows, whole, out);
         }
-        let row = first_deciding(rule, pool, b, at, r.start, r.rows);
+        let row = first_deciding(rule, pool, starts, ends, b, at, r.start, r.rows);
         out[row] = 1;
-        explain(rule, pool, b.bind(row + 1), a, verdict, out);
-        return;
+        return explain(
+            rule,
+            pool,
+            starts,
+            ends,
+            b.bind(row + 1),
+            a,
+            verdict,
+            whole,
+            out,
+        );
     }
     mark_compared(b, e, out);
+    whole
 }
 
-// Marks each of `rows` rows from `row` on that a quantifier's entry ranges over, and its body's reason. None of them decides.
+// Marks each of `rows` rows from `row` on that a quantifier's entry ranges over, and its body's reason: the first of them, then those
+// behind it, by halves. None of them decides.
 fn explain_rows(
     rule: &[u32],
     pool: &[u32],
+    starts: &[u16],
+    ends: &[u16],
     b: Bindings,
     entry: usize,
     row: usize,
     rows: usize,
+    whole: usize,
     out: &mut [u8],
-)
+) -> usize
     requires { ⌜ ReadyRows (now rule) (now pool) b entry row rows ⌝ }
     requires { ⌜ (verdictFrom (now rule) (now pool) b entry row rows ≡ settled (quantifierOf (entryAt (now rule) entry .kind))) × (rowCount (now pool) ≤ length (now out)) ⌝ }
+    requires { ⌜ Runs (now pool) (now starts) (now ends) ⌝ }
+    requires { ⌜ MarkedWhole (now pool) whole (now out) ⌝ }
     ensures { λ _. ⌜ now (out .exit) ≡ markIn (now (pool .entry)) (reasonFrom (now (rule .entry)) (now (pool .entry)) b entry row rows) (now (out .entry)) ⌝ }
+    ensures { λ r. ⌜ MarkedWhole (now (pool .entry)) r (now (out .exit)) ⌝ }
 {
     let e = entry_at(rule, entry);
     let first = next_ranged(pool, b, e, row, rows);
-    let left = row + rows - first;
-    if left == 0 {
-        return;
-    }
-    if 1 < left {
-        let half = left / 2;
-        explain_rows(rule, pool, b, entry, first, half, out);
-        explain_rows(rule, pool, b, entry, first + half, left - half, out);
-        return;
+    let end = row + rows;
+    if first == end {
+        return whole;
     }
     out[first] = 1;
-    explain(
+    let bound = b.bind(first + 1);
+    let one = explain(
         rule,
         pool,
-        b.bind(first + 1),
+        starts,
+        ends,
+        bound,
         e.a as usize,
         e.kind == 5,
+        whole,
         out,
     );
+    let left = end - first - 1;
+    if left == 0 {
+        return one;
+    }
+    let half = left / 2;
+    let near = explain_rows(
+        rule,
+        pool,
+        starts,
+        ends,
+        b,
+        entry,
+        first + 1,
+        half,
+        one,
+        out,
+    );
+    explain_rows(
+        rule,
+        pool,
+        starts,
+        ends,
+        b,
+        entry,
+        first + 1 + half,
+        left - half,
+        near,
+        out,
+    )
 }

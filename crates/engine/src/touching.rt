@@ -1,5 +1,6 @@
 // Whether a rule has a quantifier that reaches a row. Where it has none, a change of that row leaves its verdict.
 use super::bindings::Bindings;
+use super::parents::parent_of;
 use super::ranges::is_named;
 use super::verdicts::one_if;
 use super::words::entry_at;
@@ -8,31 +9,16 @@ use super::words::row_at;
 use sets::SET_LIMIT;
 use tables::ENTRY_WORDS;
 use tables::Entry;
-use tables::is_parent;
 ghost use mathlib.Core.Path.{_≡_};
 ghost use mathlib.Core.Bool.{true, false};
 ghost use Prim.Native.Nat.{_<_, _≤_};
 ghost use lib.ListN.{length};
-ghost use Rattle.tables.specs.Words.{rowAt, rowCount};
+ghost use Rattle.tables.specs.Words.{rowCount};
 ghost use Rattle.tables.specs.Rules.{nestingLimit};
-ghost use Rattle.tables.specs.Tables.{rowLimit, root, isParent, acceptedTable};
+ghost use Rattle.tables.specs.Tables.{rowLimit, acceptedTable};
 ghost use Rattle.sets.specs.Sets.{acceptedSet};
 ghost use Rattle.engine.specs.Ready.{Placed, Ready};
 ghost use Rattle.engine.specs.Touching.{notedOnWay, WayUp, depthOf, Lands, Misses, Touched};
-
-// The row that a row hangs under.
-fn parent_of(pool: &[u32], row: usize) -> usize
-    requires { ⌜ (acceptedTable (now pool) ≡ true) × (row < rowCount (now pool)) ⌝ }
-    requires { ⌜ root (rowAt (now pool) row) ≡ false ⌝ }
-    ensures { λ r. ⌜ (r < row) × (isParent (rowAt (now (pool .entry)) row) (rowAt (now (pool .entry)) r) ≡ true) ⌝ }
-{
-    let child = row_at(pool, row);
-    let mut i = row - 1;
-    while !is_parent(child, row_at(pool, i)) {
-        i -= 1;
-    }
-    i
-}
 
 // The way from a row up to its root: the places of the rows on it, by their depth.
 pub(crate) struct Way {

@@ -14,5 +14,5 @@ is-wide-spec = tie.close (tie.spec
     (λ c. search needs)
     (λ c κs. search needs)
     (λ c. search needs)
-    (λ c κs. let s = c .before .before .before .before .before .before .before in (omega (arith, c .if3 .left), omega (arith, s .pre .0 .kept (s .args .e .b - 1), c .before .place-of .ensures)))
+    (λ c κs. let s = c .before .before .before .before .before .before .before .before .before in ((omega (arith, c .if3 .left), omega (arith, s .pre .0 .kept (s .args .e .b - 1), c .before .place-of .ensures)), s .pre .1 .1))
     (λ c. search needs))

@@ -10,7 +10,7 @@ use Rattle.tables.specs.declared.Entry.{Entry}
 use Rattle.engine.proofs.Falls.{entry-measure, rows-measure, below, below-later, falls-child, falls-later, falls-rows, falls-body, falls-part}
 use Rattle.engine.proofs.Steps as steps
 use Rattle.engine.proofs.Explained as explained
-use Rattle.engine.specs.Places.{bindAt}
+use Rattle.engine.proofs.Wholes.{whole-stays, whole-with-row}
 use Prim.Native.Nat.{ℕ, _<_}
 use borrow.Fn.Kinds.{In}
 use borrow.Fn.PlainCycle.{Measures, is, falls, and}
@@ -29,46 +29,74 @@ use Rattle.engine.proofs.ranges.next_ranged.Reads as next-ranged-reads
 use Rattle.engine.proofs.ranges.run_of.Reads as run-of-reads
 use Rattle.engine.proofs.reasons.first_deciding.Reads as first-deciding-reads
 use Rattle.engine.proofs.reasons.mark_compared.Reads as mark-compared-reads
-use Rattle.engine.proofs.reasons.mark_ranged.Reads as mark-ranged-reads
+use Rattle.engine.proofs.reasons.mark_whole.Reads as mark-whole-reads
 use Rattle.engine.proofs.reasons.past_nots.Reads as past-nots-reads
 use Rattle.engine.proofs.words.entry_at.Reads as entry-at-reads
 use Rattle.engine.proofs.reasons.+explain+explain_rows.{statement}
 use Rattle.engine.proofs.reasons.+explain+explain_rows.Tie.{close}
 
-abbrev μ-explain : Measures 3 explain-kinds.ps ℕ
-μ-explain κs a = entry-measure (a .0 .now) (a .1 .0 .now) (a .1 .1 .1 .0)
+abbrev μ-explain : Measures 5 explain-kinds.ps ℕ
+μ-explain κs a = entry-measure (a .0 .now) (a .1 .0 .now) (a .1 .1 .1 .1 .1 .0)
 
-abbrev μ-explain-rows : Measures 3 explain-rows-kinds.ps ℕ
-μ-explain-rows κs a = rows-measure (a .0 .now) (a .1 .0 .now) (a .1 .1 .1 .0) (a .1 .1 .1 .1 .1 .0)
+abbrev μ-explain-rows : Measures 5 explain-rows-kinds.ps ℕ
+μ-explain-rows κs a = rows-measure (a .0 .now) (a .1 .0 .now) (a .1 .1 .1 .1 .1 .0) (a .1 .1 .1 .1 .1 .1 .1 .0)
 
-abbrev explain-at : ℕ → In 3 explain-kinds.ps
-explain-at t = and 3 explain-kinds.ps (is 3 explain-kinds.ps μ-explain t) explain.Pre
+abbrev explain-at : ℕ → In 5 explain-kinds.ps
+explain-at t = and 5 explain-kinds.ps (is 5 explain-kinds.ps μ-explain t) explain.Pre
 
-abbrev explain-below : ℕ → In 3 explain-kinds.ps
-explain-below t = and 3 explain-kinds.ps (falls 3 explain-kinds.ps _<_ μ-explain t) explain.Pre
+abbrev explain-below : ℕ → In 5 explain-kinds.ps
+explain-below t = and 5 explain-kinds.ps (falls 5 explain-kinds.ps _<_ μ-explain t) explain.Pre
 
-abbrev explain-rows-at : ℕ → In 3 explain-rows-kinds.ps
+abbrev explain-rows-at : ℕ → In 5 explain-rows-kinds.ps
 explain-rows-at t =
-    and 3 explain-rows-kinds.ps (is 3 explain-rows-kinds.ps μ-explain-rows t) explain-rows.Pre
+    and 5 explain-rows-kinds.ps (is 5 explain-rows-kinds.ps μ-explain-rows t) explain-rows.Pre
 
-abbrev explain-rows-below : ℕ → In 3 explain-rows-kinds.ps
+abbrev explain-rows-below : ℕ → In 5 explain-rows-kinds.ps
 explain-rows-below t =
     and
-    3
+    5
     explain-rows-kinds.ps
-    (falls 3 explain-rows-kinds.ps _<_ μ-explain-rows t)
+    (falls 5 explain-rows-kinds.ps _<_ μ-explain-rows t)
     explain-rows.Pre
 
 abbrev explain-claims : ℕ → explain-lts.Claims
-explain-claims t = (past-nots-reads.Asked, past-nots-reads.Learnt, entry-at-reads.Asked, entry-at-reads.Learnt, side-reads.Asked, side-reads.Learnt, explain-below t, explain.Post, holds-reads.Asked, holds-reads.Learnt, left-decides-reads.Asked, left-decides-reads.Learnt, run-of-reads.Asked, run-of-reads.Learnt, settled-before-reads.Asked, settled-before-reads.Learnt, mark-ranged-reads.Asked, mark-ranged-reads.Learnt, bind-reads.Asked, bind-reads.Learnt, explain-rows-below t, explain-rows.Post, first-deciding-reads.Asked, first-deciding-reads.Learnt, mark-compared-reads.Asked, mark-compared-reads.Learnt)
+explain-claims t = (
+  past-nots-reads.Asked,
+  past-nots-reads.Learnt,
+  entry-at-reads.Asked,
+  entry-at-reads.Learnt,
+  side-reads.Asked,
+  side-reads.Learnt,
+  explain-below t,
+  explain.Post,
+  holds-reads.Asked,
+  holds-reads.Learnt,
+  left-decides-reads.Asked,
+  left-decides-reads.Learnt,
+  run-of-reads.Asked,
+  run-of-reads.Learnt,
+  settled-before-reads.Asked,
+  settled-before-reads.Learnt,
+  mark-whole-reads.Asked,
+  mark-whole-reads.Learnt,
+  bind-reads.Asked,
+  bind-reads.Learnt,
+  explain-rows-below t,
+  explain-rows.Post,
+  first-deciding-reads.Asked,
+  first-deciding-reads.Learnt,
+  mark-compared-reads.Asked,
+  mark-compared-reads.Learnt,
+)
 
 explain-past-nots-requires : (t : ℕ) → explain-lts.Need-past-nots-requires (explain-claims t) (explain-at t) explain.Post
 explain-past-nots-requires t c κs =
-    let s = c .before .before .before in (s .pre .1 .0 .rule-accepted, s .pre .1 .0 .inside)
+    let s = c .before .before .before .before .before in
+    (s .pre .1 .0 .rule-accepted, s .pre .1 .0 .inside)
 
 explain-entry-at-requires : (t : ℕ) → explain-lts.Need-entry-at-requires (explain-claims t) (explain-at t) explain.Post
 explain-entry-at-requires t c κs =
-    let s = c .before .before .before .before in c .past-nots .ensures .0 .inside
+    let s = c .before .before .before .before .before .before in c .past-nots .ensures .0 .inside
 
 explain-cast-a : (t : ℕ) → explain-lts.Need-cast-a (explain-claims t) (explain-at t) explain.Post
 explain-cast-a t c =
@@ -84,23 +112,102 @@ explain-side-requires t c κs =
 
 explain-explain-requires : (t : ℕ) → explain-lts.Need-explain-requires (explain-claims t) (explain-at t) explain.Post
 explain-explain-requires t c κs =
-    let s = c .before .before .before .before .before .before .before .before .before .before .before .before .before in let l = steps.child-later (now (s .args .rule)) (now (s .args .pool)) (s .args .b) (c .before .before .before .before .before .before .before .before .before .past-nots .result .entry) (explained.under-ready (now (s .args .rule)) (s .args .entry) (s .args .verdict) (c .before .before .before .before .before .before .before .before .before .past-nots .result .entry) (c .before .before .before .before .before .before .before .before .before .past-nots .result .verdict) (c .before .before .before .before .before .before .before .before .before .past-nots .ensures .0) (now (s .args .pool)) (s .args .b) (s .pre .1 .0)) (c .before .before .before .before .before .before .before .before .entry-at .result) (c .before .before .before .before .before .before .before .before .entry-at .ensures) (c .before .before .before .before .before .if1 .taken) in (below-later (s .pre .0) (falls-later (entryCount (now (s .args .rule))) (rowCount (now (s .args .pool))) (s .args .entry) (c .before .before .before .before .before .before .before .before .before .past-nots .result .entry) (c .before .before .before .before .before .before .before .before .before .past-nots .ensures .0 .later)) (falls-child (entryCount (now (s .args .rule))) (rowCount (now (s .args .pool))) (c .before .before .before .before .before .before .before .before .before .past-nots .result .entry) _ (l .0) (l .1)), (steps.child-ready (now (s .args .rule)) (now (s .args .pool)) (s .args .b) (c .before .before .before .before .before .before .before .before .before .past-nots .result .entry) (explained.under-ready (now (s .args .rule)) (s .args .entry) (s .args .verdict) (c .before .before .before .before .before .before .before .before .before .past-nots .result .entry) (c .before .before .before .before .before .before .before .before .before .past-nots .result .verdict) (c .before .before .before .before .before .before .before .before .before .past-nots .ensures .0) (now (s .args .pool)) (s .args .b) (s .pre .1 .0)) (c .before .before .before .before .before .before .before .before .entry-at .result) (c .before .before .before .before .before .before .before .before .entry-at .ensures) (c .before .before .before .before .before .if1 .taken), (explained.both-left-verdict (now (s .args .rule)) (now (s .args .pool)) (s .args .b) (c .before .before .before .before .before .before .before .before .before .past-nots .result .entry) (explained.under-ready (now (s .args .rule)) (s .args .entry) (s .args .verdict) (c .before .before .before .before .before .before .before .before .before .past-nots .result .entry) (c .before .before .before .before .before .before .before .before .before .past-nots .result .verdict) (c .before .before .before .before .before .before .before .before .before .past-nots .ensures .0) (now (s .args .pool)) (s .args .b) (s .pre .1 .0)) (c .before .before .before .before .before .before .before .before .entry-at .result) (c .before .before .before .before .before .before .before .before .entry-at .ensures) (c .before .before .before .before .before .before .before .before .before .past-nots .result .verdict) (explained.under-verdict (now (s .args .rule)) (s .args .entry) (s .args .verdict) (c .before .before .before .before .before .before .before .before .before .past-nots .result .entry) (c .before .before .before .before .before .before .before .before .before .past-nots .result .verdict) (c .before .before .before .before .before .before .before .before .before .past-nots .ensures .0) (now (s .args .pool)) (s .args .b) (s .pre .1 .1 .0)) (λ z. c .before .before .before .before .before .before .before .before .before .past-nots .ensures .1 (ap (λ (y : Entry). y .kind) (sym (c .before .before .before .before .before .before .before .before .entry-at .ensures)) ∙ z)) (c .before .before .before .before .before .if1 .taken) (c .before .before .if2 .taken) _ (c .before .side .ensures), s .pre .1 .1 .1)))
+    let s = c .before .before .before .before .before .before .before .before .before .before .before .before .before .before .before in
+    let past-nots = c .before .before .before .before .before .before .before .before .before .past-nots in
+    let entry-at = c .before .before .before .before .before .before .before .before .entry-at in
+    let if1 = c .before .before .before .before .before .if1 in
+    let if2 = c .before .before .if2 in
+    let side = c .before .side in
+    let u = explained.under-ready _ _ _ _ _ (past-nots .ensures .0) (now (s .args .pool)) (s .args .b) (s .pre .1 .0) in
+    let v = explained.under-verdict _ _ _ _ _ (past-nots .ensures .0) (now (s .args .pool)) (s .args .b) (s .pre .1 .1 .0 .0) in
+    let l = steps.child-later _ _ _ _ u _ (entry-at .ensures) (if1 .taken) in (
+      below-later (s .pre .0) (falls-later (entryCount (now (s .args .rule))) (rowCount (now (s .args .pool))) (s .args .entry)
+          (past-nots .result .entry) (past-nots .ensures .0 .later)) (falls-child (entryCount (now (s .args .rule))) (rowCount (now
+          (s .args .pool))) (past-nots .result .entry) _ (l .0) (l .1)),
+      (
+        steps.child-ready _ _ _ _ u _ (entry-at .ensures) (if1 .taken),
+        (
+          (
+            explained.both-left-verdict _ _ _ _ u _ (entry-at .ensures) _ v (λ z. past-nots .ensures .1 (ap (λ (y : Entry). y .kind) (sym
+                (entry-at .ensures)) ∙ z)) (if1 .taken) (if2 .taken) _ (side .ensures),
+            s .pre .1 .1 .0 .1,
+          ),
+          (
+            s .pre .1 .1 .1 .0,
+            s .pre .1 .1 .1 .1,
+          ),
+        ),
+      ),
+    )
 
 explain-explain-requires-2 : (t : ℕ) → explain-lts.Need-explain-requires-2 (explain-claims t) (explain-at t) explain.Post
 explain-explain-requires-2 t c κs =
-    let s = c .before .before .before .before .before .before .before .before .before .before .before .before .before .before .before .before .before in let l = steps.right-later (now (s .args .rule)) (now (s .args .pool)) (s .args .b) (c .before .before .before .before .before .before .before .before .before .before .before .before .before .past-nots .result .entry) (explained.under-ready (now (s .args .rule)) (s .args .entry) (s .args .verdict) (c .before .before .before .before .before .before .before .before .before .before .before .before .before .past-nots .result .entry) (c .before .before .before .before .before .before .before .before .before .before .before .before .before .past-nots .result .verdict) (c .before .before .before .before .before .before .before .before .before .before .before .before .before .past-nots .ensures .0) (now (s .args .pool)) (s .args .b) (s .pre .1 .0)) (c .before .before .before .before .before .before .before .before .before .before .before .before .entry-at .result) (c .before .before .before .before .before .before .before .before .before .before .before .before .entry-at .ensures) (λ z. c .before .before .before .before .before .before .before .before .before .before .before .before .before .past-nots .ensures .1 (ap (λ (y : Entry). y .kind) (sym (c .before .before .before .before .before .before .before .before .before .before .before .before .entry-at .ensures)) ∙ z)) (c .before .before .before .before .before .before .before .before .before .if1 .taken) in (below-later (s .pre .0) (falls-later (entryCount (now (s .args .rule))) (rowCount (now (s .args .pool))) (s .args .entry) (c .before .before .before .before .before .before .before .before .before .before .before .before .before .past-nots .result .entry) (c .before .before .before .before .before .before .before .before .before .before .before .before .before .past-nots .ensures .0 .later)) (falls-child (entryCount (now (s .args .rule))) (rowCount (now (s .args .pool))) (c .before .before .before .before .before .before .before .before .before .before .before .before .before .past-nots .result .entry) _ (l .0) (l .1)), (steps.right-ready (now (s .args .rule)) (now (s .args .pool)) (s .args .b) (c .before .before .before .before .before .before .before .before .before .before .before .before .before .past-nots .result .entry) (explained.under-ready (now (s .args .rule)) (s .args .entry) (s .args .verdict) (c .before .before .before .before .before .before .before .before .before .before .before .before .before .past-nots .result .entry) (c .before .before .before .before .before .before .before .before .before .before .before .before .before .past-nots .result .verdict) (c .before .before .before .before .before .before .before .before .before .before .before .before .before .past-nots .ensures .0) (now (s .args .pool)) (s .args .b) (s .pre .1 .0)) (c .before .before .before .before .before .before .before .before .before .before .before .before .entry-at .result) (c .before .before .before .before .before .before .before .before .before .before .before .before .entry-at .ensures) (λ z. c .before .before .before .before .before .before .before .before .before .before .before .before .before .past-nots .ensures .1 (ap (λ (y : Entry). y .kind) (sym (c .before .before .before .before .before .before .before .before .before .before .before .before .entry-at .ensures)) ∙ z)) (c .before .before .before .before .before .before .before .before .before .if1 .taken), (explained.both-right-verdict (now (s .args .rule)) (now (s .args .pool)) (s .args .b) (c .before .before .before .before .before .before .before .before .before .before .before .before .before .past-nots .result .entry) (explained.under-ready (now (s .args .rule)) (s .args .entry) (s .args .verdict) (c .before .before .before .before .before .before .before .before .before .before .before .before .before .past-nots .result .entry) (c .before .before .before .before .before .before .before .before .before .before .before .before .before .past-nots .result .verdict) (c .before .before .before .before .before .before .before .before .before .before .before .before .before .past-nots .ensures .0) (now (s .args .pool)) (s .args .b) (s .pre .1 .0)) (c .before .before .before .before .before .before .before .before .before .before .before .before .entry-at .result) (c .before .before .before .before .before .before .before .before .before .before .before .before .entry-at .ensures) (c .before .before .before .before .before .before .before .before .before .before .before .before .before .past-nots .result .verdict) (explained.under-verdict (now (s .args .rule)) (s .args .entry) (s .args .verdict) (c .before .before .before .before .before .before .before .before .before .before .before .before .before .past-nots .result .entry) (c .before .before .before .before .before .before .before .before .before .before .before .before .before .past-nots .result .verdict) (c .before .before .before .before .before .before .before .before .before .before .before .before .before .past-nots .ensures .0) (now (s .args .pool)) (s .args .b) (s .pre .1 .1 .0)) (λ z. c .before .before .before .before .before .before .before .before .before .before .before .before .before .past-nots .ensures .1 (ap (λ (y : Entry). y .kind) (sym (c .before .before .before .before .before .before .before .before .before .before .before .before .entry-at .ensures)) ∙ z)) (c .before .before .before .before .before .before .before .before .before .if1 .taken) (c .before .before .before .before .before .before .if2 .taken), omega (arith, s .pre .1 .1 .1, c .before .before .before .explain .kept .1 .1 .1 .1 .1 .0))))
+    let s = c .before .before .before .before .before .before .before .before .before .before .before .before .before .before
+    .before .before .before .before .before in
+    let past-nots = c .before .before .before .before .before .before .before .before .before .before .before .before .before .past-nots in
+    let entry-at = c .before .before .before .before .before .before .before .before .before .before .before .before .entry-at in
+    let if1 = c .before .before .before .before .before .before .before .before .before .if1 in
+    let if2 = c .before .before .before .before .before .before .if2 in
+    let explain = c .before .before .before .explain in
+    let u = explained.under-ready _ _ _ _ _ (past-nots .ensures .0) (now (s .args .pool)) (s .args .b) (s .pre .1 .0) in
+    let v = explained.under-verdict _ _ _ _ _ (past-nots .ensures .0) (now (s .args .pool)) (s .args .b) (s .pre .1 .1 .0 .0) in
+    let l = steps.right-later _ _ _ _ u _ (entry-at .ensures) (λ z. past-nots .ensures .1 (ap (λ (y : Entry). y .kind) (sym
+    (entry-at .ensures)) ∙ z)) (if1 .taken) in (
+      below-later (s .pre .0) (falls-later (entryCount (now (s .args .rule))) (rowCount (now (s .args .pool))) (s .args .entry)
+          (past-nots .result .entry) (past-nots .ensures .0 .later)) (falls-child (entryCount (now (s .args .rule))) (rowCount (now
+          (s .args .pool))) (past-nots .result .entry) _ (l .0) (l .1)),
+      (
+        steps.right-ready _ _ _ _ u _ (entry-at .ensures) (λ z.
+            past-nots .ensures .1 (ap (λ (y : Entry). y .kind) (sym (entry-at .ensures)) ∙ z)) (if1 .taken),
+        (
+          (
+            explained.both-right-verdict _ _ _
+                _ u _ (entry-at .ensures) _ v (λ z. past-nots .ensures .1 (ap (λ (y : Entry). y .kind) (sym (entry-at .ensures)) ∙ z)) (if1 .taken)
+                (if2 .taken),
+            omega (arith, s .pre .1 .1 .0 .1, explain .kept .1 .1 .1 .1 .1 .1 .1 .1 .0),
+          ),
+          (
+            s .pre .1 .1 .1 .0,
+            explain .ensures .1,
+          ),
+        ),
+      ),
+    )
 
 explain-same-length : (t : ℕ) → explain-lts.Need-same-length (explain-claims t) (explain-at t) explain.Post
 explain-same-length t c =
-    let s = c .before .before .before .before .before .before .before .before .before .before .before .before .before .before .before .before .before .before .before .before in c .before .before .explain2 .kept .1 .1 .1 .1 .1 .0 ∙ c .before .before .before .before .before .before .explain .kept .1 .1 .1 .1 .1 .0
+    let explain2 = c .before .before .explain2 in
+    let explain = c .before .before .before .before .before .before .explain in
+    explain2 .kept .1 .1 .1 .1 .1 .1 .1 .1 .0 ∙ explain .kept .1 .1 .1 .1 .1 .1 .1 .1 .0
 
 explain-returns : (t : ℕ) → explain-lts.Need-returns (explain-claims t) (explain-at t) explain.Post
 explain-returns t c =
-    let s = c .before .before .before .before .before .before .before .before .before .before .before .before .before .before .before .before .before .before .before .before in explained.under-marked (now (s .args .rule)) (s .args .entry) (s .args .verdict) (c .before .before .before .before .before .before .before .before .before .before .before .before .before .before .before .before .past-nots .result .entry) (c .before .before .before .before .before .before .before .before .before .before .before .before .before .before .before .before .past-nots .result .verdict) (c .before .before .before .before .before .before .before .before .before .before .before .before .before .before .before .before .past-nots .ensures .0) (now (s .args .pool)) (s .args .b) (now (s .args .out)) _ (explained.both-marked (now (s .args .rule)) (now (s .args .pool)) (s .args .b) (c .before .before .before .before .before .before .before .before .before .before .before .before .before .before .before .before .past-nots .result .entry) (explained.under-ready (now (s .args .rule)) (s .args .entry) (s .args .verdict) (c .before .before .before .before .before .before .before .before .before .before .before .before .before .before .before .before .past-nots .result .entry) (c .before .before .before .before .before .before .before .before .before .before .before .before .before .before .before .before .past-nots .result .verdict) (c .before .before .before .before .before .before .before .before .before .before .before .before .before .before .before .before .past-nots .ensures .0) (now (s .args .pool)) (s .args .b) (s .pre .1 .0)) (c .before .before .before .before .before .before .before .before .before .before .before .before .before .before .before .entry-at .result) (c .before .before .before .before .before .before .before .before .before .before .before .before .before .before .before .entry-at .ensures) (c .before .before .before .before .before .before .before .before .before .before .before .before .before .before .before .before .past-nots .result .verdict) (explained.under-verdict (now (s .args .rule)) (s .args .entry) (s .args .verdict) (c .before .before .before .before .before .before .before .before .before .before .before .before .before .before .before .before .past-nots .result .entry) (c .before .before .before .before .before .before .before .before .before .before .before .before .before .before .before .before .past-nots .result .verdict) (c .before .before .before .before .before .before .before .before .before .before .before .before .before .before .before .before .past-nots .ensures .0) (now (s .args .pool)) (s .args .b) (s .pre .1 .1 .0)) (λ z. c .before .before .before .before .before .before .before .before .before .before .before .before .before .before .before .before .past-nots .ensures .1 (ap (λ (y : Entry). y .kind) (sym (c .before .before .before .before .before .before .before .before .before .before .before .before .before .before .before .entry-at .ensures)) ∙ z)) (c .before .before .before .before .before .before .before .before .before .before .before .before .if1 .taken) (c .before .before .before .before .before .before .before .before .before .if2 .taken) (now (s .args .out)) _ _ (c .before .before .before .before .before .before .explain .ensures) (c .before .before .explain2 .ensures))
+    let s = c .before .before .before .before .before .before .before .before .before .before .before .before .before .before
+    .before .before .before .before .before .before .before .before in
+    let past-nots = c .before .before .before .before .before .before .before .before .before .before .before .before .before .before
+    .before .before .past-nots in
+    let entry-at = c .before .before .before .before .before .before .before .before .before .before .before .before .before .before
+    .before .entry-at in
+    let if1 = c .before .before .before .before .before .before .before .before .before .before .before .before .if1 in
+    let if2 = c .before .before .before .before .before .before .before .before .before .if2 in
+    let explain = c .before .before .before .before .before .before .explain in
+    let explain2 = c .before .before .explain2 in
+    let u = explained.under-ready _ _ _ _ _ (past-nots .ensures .0) (now (s .args .pool)) (s .args .b) (s .pre .1 .0) in
+    let v = explained.under-verdict _ _ _ _ _ (past-nots .ensures .0) (now (s .args .pool)) (s .args .b) (s .pre .1 .1 .0 .0) in (
+      explained.under-marked _ _ _ _ _ (past-nots .ensures .0) (now (s .args .pool)) (s .args .b) (now (s .args .out)) _
+          (explained.both-marked _ _ _ _ u _ (entry-at .ensures) _ v (λ z. past-nots .ensures .1 (ap (λ (y : Entry). y .kind) (sym
+          (entry-at .ensures)) ∙ z)) (if1 .taken) (if2 .taken) (now (s .args .out)) _ _ (explain .ensures .0) (explain2 .ensures .0)),
+      explain2 .ensures .1,
+    )
 
 explain-holds-requires : (t : ℕ) → explain-lts.Need-holds-requires (explain-claims t) (explain-at t) explain.Post
 explain-holds-requires t c κs =
-    let s = c .before .before .before .before .before .before .before .before .before .before .before in steps.child-ready (now (s .args .rule)) (now (s .args .pool)) (s .args .b) (c .before .before .before .before .before .before .before .past-nots .result .entry) (explained.under-ready (now (s .args .rule)) (s .args .entry) (s .args .verdict) (c .before .before .before .before .before .before .before .past-nots .result .entry) (c .before .before .before .before .before .before .before .past-nots .result .verdict) (c .before .before .before .before .before .before .before .past-nots .ensures .0) (now (s .args .pool)) (s .args .b) (s .pre .1 .0)) (c .before .before .before .before .before .before .entry-at .result) (c .before .before .before .before .before .before .entry-at .ensures) (c .before .before .before .if1 .taken)
+    let s = c .before .before .before .before .before .before .before .before .before .before .before .before .before in
+    let past-nots = c .before .before .before .before .before .before .before .past-nots in
+    let entry-at = c .before .before .before .before .before .before .entry-at in
+    let if1 = c .before .before .before .if1 in
+    let u = explained.under-ready _ _ _ _ _ (past-nots .ensures .0) (now (s .args .pool)) (s .args .b) (s .pre .1 .0) in
+    (steps.child-ready _ _ _ _ u _ (entry-at .ensures) (if1 .taken), s .pre .1 .1 .1 .0)
 
 explain-left-decides-requires : (t : ℕ) → explain-lts.Need-left-decides-requires (explain-claims t) (explain-at t) explain.Post
 explain-left-decides-requires t c κs =
@@ -108,39 +215,147 @@ explain-left-decides-requires t c κs =
 
 explain-explain-requires-3 : (t : ℕ) → explain-lts.Need-explain-requires-3 (explain-claims t) (explain-at t) explain.Post
 explain-explain-requires-3 t c κs =
-    let s = c .before .before .before .before .before .before .before .before .before .before .before .before .before .before .before in let l = steps.child-later (now (s .args .rule)) (now (s .args .pool)) (s .args .b) (c .before .before .before .before .before .before .before .before .before .before .before .past-nots .result .entry) (explained.under-ready (now (s .args .rule)) (s .args .entry) (s .args .verdict) (c .before .before .before .before .before .before .before .before .before .before .before .past-nots .result .entry) (c .before .before .before .before .before .before .before .before .before .before .before .past-nots .result .verdict) (c .before .before .before .before .before .before .before .before .before .before .before .past-nots .ensures .0) (now (s .args .pool)) (s .args .b) (s .pre .1 .0)) (c .before .before .before .before .before .before .before .before .before .before .entry-at .result) (c .before .before .before .before .before .before .before .before .before .before .entry-at .ensures) (c .before .before .before .before .before .before .before .if1 .taken) in (below-later (s .pre .0) (falls-later (entryCount (now (s .args .rule))) (rowCount (now (s .args .pool))) (s .args .entry) (c .before .before .before .before .before .before .before .before .before .before .before .past-nots .result .entry) (c .before .before .before .before .before .before .before .before .before .before .before .past-nots .ensures .0 .later)) (falls-child (entryCount (now (s .args .rule))) (rowCount (now (s .args .pool))) (c .before .before .before .before .before .before .before .before .before .before .before .past-nots .result .entry) _ (l .0) (l .1)), (steps.child-ready (now (s .args .rule)) (now (s .args .pool)) (s .args .b) (c .before .before .before .before .before .before .before .before .before .before .before .past-nots .result .entry) (explained.under-ready (now (s .args .rule)) (s .args .entry) (s .args .verdict) (c .before .before .before .before .before .before .before .before .before .before .before .past-nots .result .entry) (c .before .before .before .before .before .before .before .before .before .before .before .past-nots .result .verdict) (c .before .before .before .before .before .before .before .before .before .before .before .past-nots .ensures .0) (now (s .args .pool)) (s .args .b) (s .pre .1 .0)) (c .before .before .before .before .before .before .before .before .before .before .entry-at .result) (c .before .before .before .before .before .before .before .before .before .before .entry-at .ensures) (c .before .before .before .before .before .before .before .if1 .taken), (c .before .before .before .holds .ensures, s .pre .1 .1 .1)))
+    let s = c .before .before .before .before .before .before .before .before .before .before .before .before .before .before
+    .before .before .before in
+    let past-nots = c .before .before .before .before .before .before .before .before .before .before .before .past-nots in
+    let entry-at = c .before .before .before .before .before .before .before .before .before .before .entry-at in
+    let if1 = c .before .before .before .before .before .before .before .if1 in
+    let holds = c .before .before .before .holds in
+    let u = explained.under-ready _ _ _ _ _ (past-nots .ensures .0) (now (s .args .pool)) (s .args .b) (s .pre .1 .0) in
+    let l = steps.child-later _ _ _ _ u _ (entry-at .ensures) (if1 .taken) in (
+      below-later (s .pre .0) (falls-later (entryCount (now (s .args .rule))) (rowCount (now (s .args .pool))) (s .args .entry)
+          (past-nots .result .entry) (past-nots .ensures .0 .later)) (falls-child (entryCount (now (s .args .rule))) (rowCount (now
+          (s .args .pool))) (past-nots .result .entry) _ (l .0) (l .1)),
+      (
+        steps.child-ready _ _ _ _ u _ (entry-at .ensures) (if1 .taken),
+        ((holds .ensures, s .pre .1 .1 .0 .1), (s .pre .1 .1 .1 .0, s .pre .1 .1 .1 .1)),
+      ),
+    )
 
 explain-same-length-2 : (t : ℕ) → explain-lts.Need-same-length-2 (explain-claims t) (explain-at t) explain.Post
 explain-same-length-2 t c =
-    let s = c .before .before .before .before .before .before .before .before .before .before .before .before .before .before .before .before .before .before in c .before .before .explain3 .kept .1 .1 .1 .1 .1 .0
+    let explain3 = c .before .before .explain3 in
+    explain3 .kept .1 .1 .1 .1 .1 .1 .1 .1 .0
 
 explain-returns-2 : (t : ℕ) → explain-lts.Need-returns-2 (explain-claims t) (explain-at t) explain.Post
 explain-returns-2 t c =
-    let s = c .before .before .before .before .before .before .before .before .before .before .before .before .before .before .before .before .before .before in explained.under-marked (now (s .args .rule)) (s .args .entry) (s .args .verdict) (c .before .before .before .before .before .before .before .before .before .before .before .before .before .before .past-nots .result .entry) (c .before .before .before .before .before .before .before .before .before .before .before .before .before .before .past-nots .result .verdict) (c .before .before .before .before .before .before .before .before .before .before .before .before .before .before .past-nots .ensures .0) (now (s .args .pool)) (s .args .b) (now (s .args .out)) _ (explained.left-marked-only (now (s .args .rule)) (now (s .args .pool)) (s .args .b) (c .before .before .before .before .before .before .before .before .before .before .before .before .before .before .past-nots .result .entry) (explained.under-ready (now (s .args .rule)) (s .args .entry) (s .args .verdict) (c .before .before .before .before .before .before .before .before .before .before .before .before .before .before .past-nots .result .entry) (c .before .before .before .before .before .before .before .before .before .before .before .before .before .before .past-nots .result .verdict) (c .before .before .before .before .before .before .before .before .before .before .before .before .before .before .past-nots .ensures .0) (now (s .args .pool)) (s .args .b) (s .pre .1 .0)) (c .before .before .before .before .before .before .before .before .before .before .before .before .before .entry-at .result) (c .before .before .before .before .before .before .before .before .before .before .before .before .before .entry-at .ensures) (c .before .before .before .before .before .before .before .before .before .before .before .before .before .before .past-nots .result .verdict) (explained.under-verdict (now (s .args .rule)) (s .args .entry) (s .args .verdict) (c .before .before .before .before .before .before .before .before .before .before .before .before .before .before .past-nots .result .entry) (c .before .before .before .before .before .before .before .before .before .before .before .before .before .before .past-nots .result .verdict) (c .before .before .before .before .before .before .before .before .before .before .before .before .before .before .past-nots .ensures .0) (now (s .args .pool)) (s .args .b) (s .pre .1 .1 .0)) (λ z. c .before .before .before .before .before .before .before .before .before .before .before .before .before .before .past-nots .ensures .1 (ap (λ (y : Entry). y .kind) (sym (c .before .before .before .before .before .before .before .before .before .before .before .before .before .entry-at .ensures)) ∙ z)) (c .before .before .before .before .before .before .before .before .before .before .if1 .taken) (c .before .before .before .before .before .before .before .if2 .left) _ _ (c .before .before .before .before .before .before .holds .ensures) (c .before .before .before .before .before .left-decides .ensures) (c .before .before .before .before .if3 .taken) (now (s .args .out)) _ (c .before .before .explain3 .ensures))
+    let s = c .before .before .before .before .before .before .before .before .before .before .before .before .before .before
+    .before .before .before .before .before .before in
+    let past-nots = c .before .before .before .before .before .before .before .before .before .before .before .before .before .before .past-nots in
+    let entry-at = c .before .before .before .before .before .before .before .before .before .before .before .before .before .entry-at in
+    let if1 = c .before .before .before .before .before .before .before .before .before .before .if1 in
+    let if2 = c .before .before .before .before .before .before .before .if2 in
+    let holds = c .before .before .before .before .before .before .holds in
+    let left-decides = c .before .before .before .before .before .left-decides in
+    let if3 = c .before .before .before .before .if3 in
+    let explain3 = c .before .before .explain3 in
+    let u = explained.under-ready _ _ _ _ _ (past-nots .ensures .0) (now (s .args .pool)) (s .args .b) (s .pre .1 .0) in
+    let v = explained.under-verdict _ _ _ _ _ (past-nots .ensures .0) (now (s .args .pool)) (s .args .b) (s .pre .1 .1 .0 .0) in (
+      explained.under-marked _ _ _ _ _ (past-nots .ensures .0) (now (s .args .pool)) (s .args .b) (now (s .args .out)) _
+          (explained.left-marked-only _ _ _ _ u _ (entry-at .ensures) _ v (λ z. past-nots .ensures .1 (ap (λ (y : Entry). y .kind) (sym
+          (entry-at .ensures)) ∙ z)) (if1 .taken) (if2 .left) _ _ (holds .ensures) (left-decides .ensures) (if3 .taken) (now (s .args .out)) _
+          (explain3 .ensures .0)),
+      explain3 .ensures .1,
+    )
 
 explain-explain-requires-4 : (t : ℕ) → explain-lts.Need-explain-requires-4 (explain-claims t) (explain-at t) explain.Post
 explain-explain-requires-4 t c κs =
-    let s = c .before .before .before .before .before .before .before .before .before .before .before .before .before .before .before in let l = steps.right-later (now (s .args .rule)) (now (s .args .pool)) (s .args .b) (c .before .before .before .before .before .before .before .before .before .before .before .past-nots .result .entry) (explained.under-ready (now (s .args .rule)) (s .args .entry) (s .args .verdict) (c .before .before .before .before .before .before .before .before .before .before .before .past-nots .result .entry) (c .before .before .before .before .before .before .before .before .before .before .before .past-nots .result .verdict) (c .before .before .before .before .before .before .before .before .before .before .before .past-nots .ensures .0) (now (s .args .pool)) (s .args .b) (s .pre .1 .0)) (c .before .before .before .before .before .before .before .before .before .before .entry-at .result) (c .before .before .before .before .before .before .before .before .before .before .entry-at .ensures) (λ z. c .before .before .before .before .before .before .before .before .before .before .before .past-nots .ensures .1 (ap (λ (y : Entry). y .kind) (sym (c .before .before .before .before .before .before .before .before .before .before .entry-at .ensures)) ∙ z)) (c .before .before .before .before .before .before .before .if1 .taken) in (below-later (s .pre .0) (falls-later (entryCount (now (s .args .rule))) (rowCount (now (s .args .pool))) (s .args .entry) (c .before .before .before .before .before .before .before .before .before .before .before .past-nots .result .entry) (c .before .before .before .before .before .before .before .before .before .before .before .past-nots .ensures .0 .later)) (falls-child (entryCount (now (s .args .rule))) (rowCount (now (s .args .pool))) (c .before .before .before .before .before .before .before .before .before .before .before .past-nots .result .entry) _ (l .0) (l .1)), (steps.right-ready (now (s .args .rule)) (now (s .args .pool)) (s .args .b) (c .before .before .before .before .before .before .before .before .before .before .before .past-nots .result .entry) (explained.under-ready (now (s .args .rule)) (s .args .entry) (s .args .verdict) (c .before .before .before .before .before .before .before .before .before .before .before .past-nots .result .entry) (c .before .before .before .before .before .before .before .before .before .before .before .past-nots .result .verdict) (c .before .before .before .before .before .before .before .before .before .before .before .past-nots .ensures .0) (now (s .args .pool)) (s .args .b) (s .pre .1 .0)) (c .before .before .before .before .before .before .before .before .before .before .entry-at .result) (c .before .before .before .before .before .before .before .before .before .before .entry-at .ensures) (λ z. c .before .before .before .before .before .before .before .before .before .before .before .past-nots .ensures .1 (ap (λ (y : Entry). y .kind) (sym (c .before .before .before .before .before .before .before .before .before .before .entry-at .ensures)) ∙ z)) (c .before .before .before .before .before .before .before .if1 .taken), (explained.last-verdict (now (s .args .rule)) (now (s .args .pool)) (s .args .b) (c .before .before .before .before .before .before .before .before .before .before .before .past-nots .result .entry) (explained.under-ready (now (s .args .rule)) (s .args .entry) (s .args .verdict) (c .before .before .before .before .before .before .before .before .before .before .before .past-nots .result .entry) (c .before .before .before .before .before .before .before .before .before .before .before .past-nots .result .verdict) (c .before .before .before .before .before .before .before .before .before .before .before .past-nots .ensures .0) (now (s .args .pool)) (s .args .b) (s .pre .1 .0)) (c .before .before .before .before .before .before .before .before .before .before .entry-at .result) (c .before .before .before .before .before .before .before .before .before .before .entry-at .ensures) (c .before .before .before .before .before .before .before .before .before .before .before .past-nots .result .verdict) (explained.under-verdict (now (s .args .rule)) (s .args .entry) (s .args .verdict) (c .before .before .before .before .before .before .before .before .before .before .before .past-nots .result .entry) (c .before .before .before .before .before .before .before .before .before .before .before .past-nots .result .verdict) (c .before .before .before .before .before .before .before .before .before .before .before .past-nots .ensures .0) (now (s .args .pool)) (s .args .b) (s .pre .1 .1 .0)) (λ z. c .before .before .before .before .before .before .before .before .before .before .before .past-nots .ensures .1 (ap (λ (y : Entry). y .kind) (sym (c .before .before .before .before .before .before .before .before .before .before .entry-at .ensures)) ∙ z)) (c .before .before .before .before .before .before .before .if1 .taken) (c .before .before .before .before .if2 .left) _ _ (c .before .before .before .holds .ensures) (c .before .before .left-decides .ensures) (c .before .if3 .left), s .pre .1 .1 .1)))
+    let s = c .before .before .before .before .before .before .before .before .before .before .before .before .before .before
+    .before .before .before in
+    let past-nots = c .before .before .before .before .before .before .before .before .before .before .before .past-nots in
+    let entry-at = c .before .before .before .before .before .before .before .before .before .before .entry-at in
+    let if1 = c .before .before .before .before .before .before .before .if1 in
+    let if2 = c .before .before .before .before .if2 in
+    let holds = c .before .before .before .holds in
+    let left-decides = c .before .before .left-decides in
+    let if3 = c .before .if3 in
+    let u = explained.under-ready _ _ _ _ _ (past-nots .ensures .0) (now (s .args .pool)) (s .args .b) (s .pre .1 .0) in
+    let v = explained.under-verdict _ _ _ _ _ (past-nots .ensures .0) (now (s .args .pool)) (s .args .b) (s .pre .1 .1 .0 .0) in
+    let l = steps.right-later _ _ _ _ u _ (entry-at .ensures) (λ z. past-nots .ensures .1 (ap (λ (y : Entry). y .kind) (sym
+    (entry-at .ensures)) ∙ z)) (if1 .taken) in (
+      below-later (s .pre .0) (falls-later (entryCount (now (s .args .rule))) (rowCount (now (s .args .pool))) (s .args .entry)
+          (past-nots .result .entry) (past-nots .ensures .0 .later)) (falls-child (entryCount (now (s .args .rule))) (rowCount (now
+          (s .args .pool))) (past-nots .result .entry) _ (l .0) (l .1)),
+      (
+        steps.right-ready _ _ _ _ u _ (entry-at .ensures) (λ z.
+            past-nots .ensures .1 (ap (λ (y : Entry). y .kind) (sym (entry-at .ensures)) ∙ z)) (if1 .taken),
+        (
+          (
+            explained.last-verdict _ _ _ _ u _
+                (entry-at .ensures) _ v (λ z. past-nots .ensures .1 (ap (λ (y : Entry). y .kind) (sym (entry-at .ensures)) ∙ z)) (if1 .taken)
+                (if2 .left) _ _ (holds .ensures) (left-decides .ensures) (if3 .left),
+            s .pre .1 .1 .0 .1,
+          ),
+          (
+            s .pre .1 .1 .1 .0,
+            s .pre .1 .1 .1 .1,
+          ),
+        ),
+      ),
+    )
 
 explain-same-length-3 : (t : ℕ) → explain-lts.Need-same-length-3 (explain-claims t) (explain-at t) explain.Post
 explain-same-length-3 t c =
-    let s = c .before .before .before .before .before .before .before .before .before .before .before .before .before .before .before .before .before .before in c .before .before .explain4 .kept .1 .1 .1 .1 .1 .0
+    let explain4 = c .before .before .explain4 in
+    explain4 .kept .1 .1 .1 .1 .1 .1 .1 .1 .0
 
 explain-returns-3 : (t : ℕ) → explain-lts.Need-returns-3 (explain-claims t) (explain-at t) explain.Post
 explain-returns-3 t c =
-    let s = c .before .before .before .before .before .before .before .before .before .before .before .before .before .before .before .before .before .before in explained.under-marked (now (s .args .rule)) (s .args .entry) (s .args .verdict) (c .before .before .before .before .before .before .before .before .before .before .before .before .before .before .past-nots .result .entry) (c .before .before .before .before .before .before .before .before .before .before .before .before .before .before .past-nots .result .verdict) (c .before .before .before .before .before .before .before .before .before .before .before .before .before .before .past-nots .ensures .0) (now (s .args .pool)) (s .args .b) (now (s .args .out)) _ (explained.right-marked-only (now (s .args .rule)) (now (s .args .pool)) (s .args .b) (c .before .before .before .before .before .before .before .before .before .before .before .before .before .before .past-nots .result .entry) (explained.under-ready (now (s .args .rule)) (s .args .entry) (s .args .verdict) (c .before .before .before .before .before .before .before .before .before .before .before .before .before .before .past-nots .result .entry) (c .before .before .before .before .before .before .before .before .before .before .before .before .before .before .past-nots .result .verdict) (c .before .before .before .before .before .before .before .before .before .before .before .before .before .before .past-nots .ensures .0) (now (s .args .pool)) (s .args .b) (s .pre .1 .0)) (c .before .before .before .before .before .before .before .before .before .before .before .before .before .entry-at .result) (c .before .before .before .before .before .before .before .before .before .before .before .before .before .entry-at .ensures) (c .before .before .before .before .before .before .before .before .before .before .before .before .before .before .past-nots .result .verdict) (explained.under-verdict (now (s .args .rule)) (s .args .entry) (s .args .verdict) (c .before .before .before .before .before .before .before .before .before .before .before .before .before .before .past-nots .result .entry) (c .before .before .before .before .before .before .before .before .before .before .before .before .before .before .past-nots .result .verdict) (c .before .before .before .before .before .before .before .before .before .before .before .before .before .before .past-nots .ensures .0) (now (s .args .pool)) (s .args .b) (s .pre .1 .1 .0)) (λ z. c .before .before .before .before .before .before .before .before .before .before .before .before .before .before .past-nots .ensures .1 (ap (λ (y : Entry). y .kind) (sym (c .before .before .before .before .before .before .before .before .before .before .before .before .before .entry-at .ensures)) ∙ z)) (c .before .before .before .before .before .before .before .before .before .before .if1 .taken) (c .before .before .before .before .before .before .before .if2 .left) _ _ (c .before .before .before .before .before .before .holds .ensures) (c .before .before .before .before .before .left-decides .ensures) (c .before .before .before .before .if3 .left) (now (s .args .out)) _ (c .before .before .explain4 .ensures))
+    let s = c .before .before .before .before .before .before .before .before .before .before .before .before .before .before
+    .before .before .before .before .before .before in
+    let past-nots = c .before .before .before .before .before .before .before .before .before .before .before .before .before .before .past-nots in
+    let entry-at = c .before .before .before .before .before .before .before .before .before .before .before .before .before .entry-at in
+    let if1 = c .before .before .before .before .before .before .before .before .before .before .if1 in
+    let if2 = c .before .before .before .before .before .before .before .if2 in
+    let holds = c .before .before .before .before .before .before .holds in
+    let left-decides = c .before .before .before .before .before .left-decides in
+    let if3 = c .before .before .before .before .if3 in
+    let explain4 = c .before .before .explain4 in
+    let u = explained.under-ready _ _ _ _ _ (past-nots .ensures .0) (now (s .args .pool)) (s .args .b) (s .pre .1 .0) in
+    let v = explained.under-verdict _ _ _ _ _ (past-nots .ensures .0) (now (s .args .pool)) (s .args .b) (s .pre .1 .1 .0 .0) in (
+      explained.under-marked _ _ _ _ _ (past-nots .ensures .0) (now (s .args .pool)) (s .args .b) (now (s .args .out)) _
+          (explained.right-marked-only _ _ _ _ u _ (entry-at .ensures) _ v (λ z. past-nots .ensures .1 (ap (λ (y : Entry). y .kind) (sym
+          (entry-at .ensures)) ∙ z)) (if1 .taken) (if2 .left) _ _ (holds .ensures) (left-decides .ensures) (if3 .left) (now (s .args .out)) _
+          (explain4 .ensures .0)),
+      explain4 .ensures .1,
+    )
 
 explain-run-of-requires : (t : ℕ) → explain-lts.Need-run-of-requires (explain-claims t) (explain-at t) explain.Post
 explain-run-of-requires t c κs =
-    let s = c .before .before .before .before .before .before .before .before .before .before in (s .pre .1 .0 .placed, (s .pre .1 .0 .pool-accepted, steps.run-limit (now (s .args .rule)) (now (s .args .pool)) (s .args .b) (c .before .before .before .before .before .before .past-nots .result .entry) (explained.under-ready (now (s .args .rule)) (s .args .entry) (s .args .verdict) (c .before .before .before .before .before .before .past-nots .result .entry) (c .before .before .before .before .before .before .past-nots .result .verdict) (c .before .before .before .before .before .before .past-nots .ensures .0) (now (s .args .pool)) (s .args .b) (s .pre .1 .0)) (c .before .before .before .before .before .entry-at .result) (c .before .before .before .before .before .entry-at .ensures) (c .before .before .if1 .left) (c .if4 .taken)))
+    let s = c .before .before .before .before .before .before .before .before .before .before .before .before in
+    let past-nots = c .before .before .before .before .before .before .past-nots in
+    let entry-at = c .before .before .before .before .before .entry-at in
+    let if1 = c .before .before .if1 in
+    let if4 = c .if4 in
+    let u = explained.under-ready _ _ _ _ _ (past-nots .ensures .0) (now (s .args .pool)) (s .args .b) (s .pre .1 .0) in
+    (s .pre .1 .0 .placed, (steps.run-limit _ _ _ _ u _ (entry-at .ensures) (if1 .left) (if4 .taken), s .pre .1 .1 .1 .0))
 
 explain-settled-before-requires : (t : ℕ) → explain-lts.Need-settled-before-requires (explain-claims t) (explain-at t) explain.Post
 explain-settled-before-requires t c κs =
-    let s = c .before .before .before .before .before .before .before .before .before .before .before .before .before in (steps.rows-ready (now (s .args .rule)) (now (s .args .pool)) (s .args .b) (c .before .before .before .before .before .before .before .before .before .past-nots .result .entry) (explained.under-ready (now (s .args .rule)) (s .args .entry) (s .args .verdict) (c .before .before .before .before .before .before .before .before .before .past-nots .result .entry) (c .before .before .before .before .before .before .before .before .before .past-nots .result .verdict) (c .before .before .before .before .before .before .before .before .before .past-nots .ensures .0) (now (s .args .pool)) (s .args .b) (s .pre .1 .0)) (c .before .before .before .before .before .before .before .before .entry-at .result) (c .before .before .before .before .before .before .before .before .entry-at .ensures) (c .before .before .before .before .before .if1 .left) (c .before .before .before .if4 .taken) 0 0 (omega arith))
+    let s = c .before .before .before .before .before .before .before .before .before .before .before .before .before .before .before in
+    let past-nots = c .before .before .before .before .before .before .before .before .before .past-nots in
+    let entry-at = c .before .before .before .before .before .before .before .before .entry-at in
+    let if1 = c .before .before .before .before .before .if1 in
+    let if4 = c .before .before .before .if4 in
+    let u = explained.under-ready _ _ _ _ _ (past-nots .ensures .0) (now (s .args .pool)) (s .args .b) (s .pre .1 .0) in
+    (steps.rows-ready _ _ _ _ u _ (entry-at .ensures) (if1 .left) (if4 .taken) 0 0 (omega arith), s .pre .1 .1 .1 .0)
 
-explain-mark-ranged-requires : (t : ℕ) → explain-lts.Need-mark-ranged-requires (explain-claims t) (explain-at t) explain.Post
-explain-mark-ranged-requires t c κs =
-    let s = c .before .before .before .before .before .before .before .before .before .before .before .before .before .before .before .before in (s .pre .1 .0 .placed, ((s .pre .1 .0 .pool-accepted, steps.run-limit (now (s .args .rule)) (now (s .args .pool)) (s .args .b) (c .before .before .before .before .before .before .before .before .before .before .before .before .past-nots .result .entry) (explained.under-ready (now (s .args .rule)) (s .args .entry) (s .args .verdict) (c .before .before .before .before .before .before .before .before .before .before .before .before .past-nots .result .entry) (c .before .before .before .before .before .before .before .before .before .before .before .before .past-nots .result .verdict) (c .before .before .before .before .before .before .before .before .before .before .before .before .past-nots .ensures .0) (now (s .args .pool)) (s .args .b) (s .pre .1 .0)) (c .before .before .before .before .before .before .before .before .before .before .before .entry-at .result) (c .before .before .before .before .before .before .before .before .before .before .before .entry-at .ensures) (c .before .before .before .before .before .before .before .before .if1 .left) (c .before .before .before .before .before .before .if4 .taken)), (c .before .before .before .before .before .run-of .ensures .place, s .pre .1 .1 .1)))
+explain-mark-whole-requires : (t : ℕ) → explain-lts.Need-mark-whole-requires (explain-claims t) (explain-at t) explain.Post
+explain-mark-whole-requires t c κs =
+    let s = c .before .before .before .before .before .before .before .before .before .before .before .before .before .before
+    .before .before .before .before in
+    let past-nots = c .before .before .before .before .before .before .before .before .before .before .before .before .past-nots in
+    let entry-at = c .before .before .before .before .before .before .before .before .before .before .before .entry-at in
+    let if1 = c .before .before .before .before .before .before .before .before .if1 in
+    let if4 = c .before .before .before .before .before .before .if4 in
+    let run-of = c .before .before .before .before .before .run-of in
+    let u = explained.under-ready _ _ _ _ _ (past-nots .ensures .0) (now (s .args .pool)) (s .args .b) (s .pre .1 .0) in (
+      s .pre .1 .0 .placed,
+      (
+        (s .pre .1 .0 .pool-accepted, steps.run-limit _ _ _ _ u _ (entry-at .ensures) (if1 .left) (if4 .taken)),
+        (s .pre .1 .1 .0 .1, (run-of .ensures, s .pre .1 .1 .1 .1)),
+      ),
+    )
 
 explain-bind-requires : (t : ℕ) → explain-lts.Need-bind-requires (explain-claims t) (explain-at t) explain.Post
 explain-bind-requires t c κs =
@@ -148,47 +363,237 @@ explain-bind-requires t c κs =
 
 explain-explain-requires-5 : (t : ℕ) → explain-lts.Need-explain-requires-5 (explain-claims t) (explain-at t) explain.Post
 explain-explain-requires-5 t c κs =
-    let s = c .before .before .before .before .before .before .before .before .before .before .before .before .before .before .before .before .before .before .before .before .before .before in let l = steps.body-later (now (s .args .rule)) (now (s .args .pool)) (s .args .b) (c .before .before .before .before .before .before .before .before .before .before .before .before .before .before .before .before .before .before .past-nots .result .entry) (c .before .before .before .before .before .before .before .before .before .before .before .run-of .result .start) (c .before .before .before .before .before .before .before .before .before .before .before .run-of .result .rows) (steps.rows-ready (now (s .args .rule)) (now (s .args .pool)) (s .args .b) (c .before .before .before .before .before .before .before .before .before .before .before .before .before .before .before .before .before .before .past-nots .result .entry) (explained.under-ready (now (s .args .rule)) (s .args .entry) (s .args .verdict) (c .before .before .before .before .before .before .before .before .before .before .before .before .before .before .before .before .before .before .past-nots .result .entry) (c .before .before .before .before .before .before .before .before .before .before .before .before .before .before .before .before .before .before .past-nots .result .verdict) (c .before .before .before .before .before .before .before .before .before .before .before .before .before .before .before .before .before .before .past-nots .ensures .0) (now (s .args .pool)) (s .args .b) (s .pre .1 .0)) (c .before .before .before .before .before .before .before .before .before .before .before .before .before .before .before .before .before .entry-at .result) (c .before .before .before .before .before .before .before .before .before .before .before .before .before .before .before .before .before .entry-at .ensures) (c .before .before .before .before .before .before .before .before .before .before .before .before .before .before .if1 .left) (c .before .before .before .before .before .before .before .before .before .before .before .before .if4 .taken) (c .before .before .before .before .before .before .before .before .before .before .before .run-of .result .start) (c .before .before .before .before .before .before .before .before .before .before .before .run-of .result .rows) (c .before .before .before .before .before .before .before .before .before .before .before .run-of .ensures .place)) (c .before .before .before .before .before .before .before .before .before .before .before .before .before .before .before .before .before .entry-at .result) (c .before .before .before .before .before .before .before .before .before .before .before .before .before .before .before .before .before .entry-at .ensures) in (below-later (s .pre .0) (falls-later (entryCount (now (s .args .rule))) (rowCount (now (s .args .pool))) (s .args .entry) (c .before .before .before .before .before .before .before .before .before .before .before .before .before .before .before .before .before .before .past-nots .result .entry) (c .before .before .before .before .before .before .before .before .before .before .before .before .before .before .before .before .before .before .past-nots .ensures .0 .later)) (falls-child (entryCount (now (s .args .rule))) (rowCount (now (s .args .pool))) (c .before .before .before .before .before .before .before .before .before .before .before .before .before .before .before .before .before .before .past-nots .result .entry) _ (l .0) (l .1)), (steps.bound-ready (now (s .args .rule)) (now (s .args .pool)) (s .args .b) (c .before .before .before .before .before .before .before .before .before .before .before .before .before .before .before .before .before .before .past-nots .result .entry) (c .before .before .before .before .before .before .before .before .before .before .before .run-of .result .start) (c .before .before .before .before .before .before .before .before .before .before .before .run-of .result .rows) (steps.rows-ready (now (s .args .rule)) (now (s .args .pool)) (s .args .b) (c .before .before .before .before .before .before .before .before .before .before .before .before .before .before .before .before .before .before .past-nots .result .entry) (explained.under-ready (now (s .args .rule)) (s .args .entry) (s .args .verdict) (c .before .before .before .before .before .before .before .before .before .before .before .before .before .before .before .before .before .before .past-nots .result .entry) (c .before .before .before .before .before .before .before .before .before .before .before .before .before .before .before .before .before .before .past-nots .result .verdict) (c .before .before .before .before .before .before .before .before .before .before .before .before .before .before .before .before .before .before .past-nots .ensures .0) (now (s .args .pool)) (s .args .b) (s .pre .1 .0)) (c .before .before .before .before .before .before .before .before .before .before .before .before .before .before .before .before .before .entry-at .result) (c .before .before .before .before .before .before .before .before .before .before .before .before .before .before .before .before .before .entry-at .ensures) (c .before .before .before .before .before .before .before .before .before .before .before .before .before .before .if1 .left) (c .before .before .before .before .before .before .before .before .before .before .before .before .if4 .taken) (c .before .before .before .before .before .before .before .before .before .before .before .run-of .result .start) (c .before .before .before .before .before .before .before .before .before .before .before .run-of .result .rows) (c .before .before .before .before .before .before .before .before .before .before .before .run-of .ensures .place)) (c .before .before .before .before .before .before .before .before .before .before .before .before .before .before .before .before .before .entry-at .result) (c .before .before .before .before .before .before .before .before .before .before .before .before .before .before .before .before .before .entry-at .ensures) 0 (omega arith) _ (c .before .bind .ensures), (explained.once-verdict (now (s .args .rule)) (now (s .args .pool)) (s .args .b) (c .before .before .before .before .before .before .before .before .before .before .before .before .before .before .before .before .before .before .past-nots .result .entry) (c .before .before .before .before .before .before .before .before .before .before .before .run-of .result .start) (c .before .before .before .before .before .before .before .before .before .before .before .run-of .result .rows) (steps.rows-ready (now (s .args .rule)) (now (s .args .pool)) (s .args .b) (c .before .before .before .before .before .before .before .before .before .before .before .before .before .before .before .before .before .before .past-nots .result .entry) (explained.under-ready (now (s .args .rule)) (s .args .entry) (s .args .verdict) (c .before .before .before .before .before .before .before .before .before .before .before .before .before .before .before .before .before .before .past-nots .result .entry) (c .before .before .before .before .before .before .before .before .before .before .before .before .before .before .before .before .before .before .past-nots .result .verdict) (c .before .before .before .before .before .before .before .before .before .before .before .before .before .before .before .before .before .before .past-nots .ensures .0) (now (s .args .pool)) (s .args .b) (s .pre .1 .0)) (c .before .before .before .before .before .before .before .before .before .before .before .before .before .before .before .before .before .entry-at .result) (c .before .before .before .before .before .before .before .before .before .before .before .before .before .before .before .before .before .entry-at .ensures) (c .before .before .before .before .before .before .before .before .before .before .before .before .before .before .if1 .left) (c .before .before .before .before .before .before .before .before .before .before .before .before .if4 .taken) (c .before .before .before .before .before .before .before .before .before .before .before .run-of .result .start) (c .before .before .before .before .before .before .before .before .before .before .before .run-of .result .rows) (c .before .before .before .before .before .before .before .before .before .before .before .run-of .ensures .place)) (c .before .before .before .before .before .before .before .before .before .before .before .before .before .before .before .before .before .entry-at .result) (c .before .before .before .before .before .before .before .before .before .before .before .before .before .before .before .before .before .entry-at .ensures) (c .before .before .before .before .before .before .before .before .before .before .before .before .before .before .before .before .before .before .past-nots .result .verdict) (explained.under-verdict (now (s .args .rule)) (s .args .entry) (s .args .verdict) (c .before .before .before .before .before .before .before .before .before .before .before .before .before .before .before .before .before .before .past-nots .result .entry) (c .before .before .before .before .before .before .before .before .before .before .before .before .before .before .before .before .before .before .past-nots .result .verdict) (c .before .before .before .before .before .before .before .before .before .before .before .before .before .before .before .before .before .before .past-nots .ensures .0) (now (s .args .pool)) (s .args .b) (s .pre .1 .1 .0)) (steps.run-whole (now (s .args .rule)) (now (s .args .pool)) (s .args .b) (c .before .before .before .before .before .before .before .before .before .before .before .before .before .before .before .before .before .before .past-nots .result .entry) (explained.under-ready (now (s .args .rule)) (s .args .entry) (s .args .verdict) (c .before .before .before .before .before .before .before .before .before .before .before .before .before .before .before .before .before .before .past-nots .result .entry) (c .before .before .before .before .before .before .before .before .before .before .before .before .before .before .before .before .before .before .past-nots .result .verdict) (c .before .before .before .before .before .before .before .before .before .before .before .before .before .before .before .before .before .before .past-nots .ensures .0) (now (s .args .pool)) (s .args .b) (s .pre .1 .0)) (c .before .before .before .before .before .before .before .before .before .before .before .before .before .before .before .before .before .entry-at .result) (c .before .before .before .before .before .before .before .before .before .before .before .before .before .before .before .before .before .entry-at .ensures) (c .before .before .before .before .before .before .before .before .before .before .before .before .before .before .if1 .left) (c .before .before .before .before .before .before .before .before .before .before .before .before .if4 .taken) (c .before .before .before .before .before .before .before .before .before .before .before .run-of .result .start) (c .before .before .before .before .before .before .before .before .before .before .before .run-of .result .rows) (c .before .before .before .before .before .before .before .before .before .before .before .run-of .ensures)) (c .before .before .before .before .before .before .before .before .before .if5 .taken) (c .before .before .before .before .before .before .before .before .settled-before .ensures .body (c .before .before .before .before .before .before .before .if6 .taken)) _ (c .before .bind .ensures), omega (arith, s .pre .1 .1 .1, c .before .before .before .before .before .mark-ranged .kept .1 .1 .1 .1 .1 .0))))
+    let s = c .before .before .before .before .before .before .before .before .before .before .before .before .before .before
+    .before .before .before .before .before .before .before .before .before .before in
+    let past-nots = c .before .before .before .before .before .before .before .before .before .before .before .before .before .before
+    .before .before .before .before .past-nots in
+    let entry-at = c .before .before .before .before .before .before .before .before .before .before .before .before .before .before
+    .before .before .before .entry-at in
+    let if1 = c .before .before .before .before .before .before .before .before .before .before .before .before .before .before .if1 in
+    let if4 = c .before .before .before .before .before .before .before .before .before .before .before .before .if4 in
+    let run-of = c .before .before .before .before .before .before .before .before .before .before .before .run-of in
+    let bind = c .before .bind in
+    let if5 = c .before .before .before .before .before .before .before .before .before .if5 in
+    let settled-before = c .before .before .before .before .before .before .before .before .settled-before in
+    let if6 = c .before .before .before .before .before .before .before .if6 in
+    let mark-whole = c .before .before .before .before .before .mark-whole in
+    let u = explained.under-ready _ _ _ _ _ (past-nots .ensures .0) (now (s .args .pool)) (s .args .b) (s .pre .1 .0) in
+    let v = explained.under-verdict _ _ _ _ _ (past-nots .ensures .0) (now (s .args .pool)) (s .args .b) (s .pre .1 .1 .0 .0) in
+    let o = steps.rows-ready _ _ _ _ u _ (entry-at .ensures) (if1 .left) (if4 .taken) (run-of .result .start) (run-of .result .rows)
+    (run-of .ensures .place) in
+    let w = steps.run-whole _ _ _ _ u _ (entry-at .ensures) (if1 .left) (if4 .taken) (run-of .result .start) (run-of .result .rows)
+    (run-of .ensures) in
+    let l = steps.body-later _ _ _ _ _ _ o _ (entry-at .ensures) in (
+      below-later (s .pre .0) (falls-later (entryCount (now (s .args .rule))) (rowCount (now (s .args .pool))) (s .args .entry)
+          (past-nots .result .entry) (past-nots .ensures .0 .later)) (falls-child (entryCount (now (s .args .rule))) (rowCount (now
+          (s .args .pool))) (past-nots .result .entry) _ (l .0) (l .1)),
+      (
+        steps.bound-ready _ _ _ _ _ _ o _ (entry-at .ensures) 0 (omega arith)
+            _ (bind .ensures),
+        (
+          (
+            explained.once-verdict _ _ _ _ _ _ o _ (entry-at .ensures) _ v w (if5 .taken) (settled-before .ensures .body
+                (if6 .taken)) _ (bind .ensures),
+            omega (arith, s .pre .1 .1 .0 .1, mark-whole .kept .1 .1 .1 .1 .1 .1 .0),
+          ),
+          (
+            s .pre .1 .1 .1 .0,
+            mark-whole .ensures .1 .1,
+          ),
+        ),
+      ),
+    )
 
 explain-same-length-4 : (t : ℕ) → explain-lts.Need-same-length-4 (explain-claims t) (explain-at t) explain.Post
 explain-same-length-4 t c =
-    let s = c .before .before .before .before .before .before .before .before .before .before .before .before .before .before .before .before .before .before .before .before .before .before .before .before .before in c .before .before .explain5 .kept .1 .1 .1 .1 .1 .0 ∙ c .before .before .before .before .before .before .before .before .mark-ranged .kept .1 .1 .1 .1 .1 .0
+    let explain5 = c .before .before .explain5 in
+    let mark-whole = c .before .before .before .before .before .before .before .before .mark-whole in
+    explain5 .kept .1 .1 .1 .1 .1 .1 .1 .1 .0 ∙ mark-whole .kept .1 .1 .1 .1 .1 .1 .0
 
 explain-returns-4 : (t : ℕ) → explain-lts.Need-returns-4 (explain-claims t) (explain-at t) explain.Post
 explain-returns-4 t c =
-    let s = c .before .before .before .before .before .before .before .before .before .before .before .before .before .before .before .before .before .before .before .before .before .before .before .before .before in explained.under-marked (now (s .args .rule)) (s .args .entry) (s .args .verdict) (c .before .before .before .before .before .before .before .before .before .before .before .before .before .before .before .before .before .before .before .before .before .past-nots .result .entry) (c .before .before .before .before .before .before .before .before .before .before .before .before .before .before .before .before .before .before .before .before .before .past-nots .result .verdict) (c .before .before .before .before .before .before .before .before .before .before .before .before .before .before .before .before .before .before .before .before .before .past-nots .ensures .0) (now (s .args .pool)) (s .args .b) (now (s .args .out)) _ (explained.once-marked (now (s .args .rule)) (now (s .args .pool)) (s .args .b) (c .before .before .before .before .before .before .before .before .before .before .before .before .before .before .before .before .before .before .before .before .before .past-nots .result .entry) (c .before .before .before .before .before .before .before .before .before .before .before .before .before .before .run-of .result .start) (c .before .before .before .before .before .before .before .before .before .before .before .before .before .before .run-of .result .rows) (steps.rows-ready (now (s .args .rule)) (now (s .args .pool)) (s .args .b) (c .before .before .before .before .before .before .before .before .before .before .before .before .before .before .before .before .before .before .before .before .before .past-nots .result .entry) (explained.under-ready (now (s .args .rule)) (s .args .entry) (s .args .verdict) (c .before .before .before .before .before .before .before .before .before .before .before .before .before .before .before .before .before .before .before .before .before .past-nots .result .entry) (c .before .before .before .before .before .before .before .before .before .before .before .before .before .before .before .before .before .before .before .before .before .past-nots .result .verdict) (c .before .before .before .before .before .before .before .before .before .before .before .before .before .before .before .before .before .before .before .before .before .past-nots .ensures .0) (now (s .args .pool)) (s .args .b) (s .pre .1 .0)) (c .before .before .before .before .before .before .before .before .before .before .before .before .before .before .before .before .before .before .before .before .entry-at .result) (c .before .before .before .before .before .before .before .before .before .before .before .before .before .before .before .before .before .before .before .before .entry-at .ensures) (c .before .before .before .before .before .before .before .before .before .before .before .before .before .before .before .before .before .if1 .left) (c .before .before .before .before .before .before .before .before .before .before .before .before .before .before .before .if4 .taken) (c .before .before .before .before .before .before .before .before .before .before .before .before .before .before .run-of .result .start) (c .before .before .before .before .before .before .before .before .before .before .before .before .before .before .run-of .result .rows) (c .before .before .before .before .before .before .before .before .before .before .before .before .before .before .run-of .ensures .place)) (c .before .before .before .before .before .before .before .before .before .before .before .before .before .before .before .before .before .before .before .before .entry-at .result) (c .before .before .before .before .before .before .before .before .before .before .before .before .before .before .before .before .before .before .before .before .entry-at .ensures) (c .before .before .before .before .before .before .before .before .before .before .before .before .before .before .before .before .before .before .before .before .before .past-nots .result .verdict) (explained.under-verdict (now (s .args .rule)) (s .args .entry) (s .args .verdict) (c .before .before .before .before .before .before .before .before .before .before .before .before .before .before .before .before .before .before .before .before .before .past-nots .result .entry) (c .before .before .before .before .before .before .before .before .before .before .before .before .before .before .before .before .before .before .before .before .before .past-nots .result .verdict) (c .before .before .before .before .before .before .before .before .before .before .before .before .before .before .before .before .before .before .before .before .before .past-nots .ensures .0) (now (s .args .pool)) (s .args .b) (s .pre .1 .1 .0)) (steps.run-whole (now (s .args .rule)) (now (s .args .pool)) (s .args .b) (c .before .before .before .before .before .before .before .before .before .before .before .before .before .before .before .before .before .before .before .before .before .past-nots .result .entry) (explained.under-ready (now (s .args .rule)) (s .args .entry) (s .args .verdict) (c .before .before .before .before .before .before .before .before .before .before .before .before .before .before .before .before .before .before .before .before .before .past-nots .result .entry) (c .before .before .before .before .before .before .before .before .before .before .before .before .before .before .before .before .before .before .before .before .before .past-nots .result .verdict) (c .before .before .before .before .before .before .before .before .before .before .before .before .before .before .before .before .before .before .before .before .before .past-nots .ensures .0) (now (s .args .pool)) (s .args .b) (s .pre .1 .0)) (c .before .before .before .before .before .before .before .before .before .before .before .before .before .before .before .before .before .before .before .before .entry-at .result) (c .before .before .before .before .before .before .before .before .before .before .before .before .before .before .before .before .before .before .before .before .entry-at .ensures) (c .before .before .before .before .before .before .before .before .before .before .before .before .before .before .before .before .before .if1 .left) (c .before .before .before .before .before .before .before .before .before .before .before .before .before .before .before .if4 .taken) (c .before .before .before .before .before .before .before .before .before .before .before .before .before .before .run-of .result .start) (c .before .before .before .before .before .before .before .before .before .before .before .before .before .before .run-of .result .rows) (c .before .before .before .before .before .before .before .before .before .before .before .before .before .before .run-of .ensures)) (c .before .before .before .before .before .before .before .before .before .before .before .before .if5 .taken) _ (c .before .before .before .before .bind .ensures) (c .before .before .before .before .before .before .before .before .before .before .before .settled-before .ensures .alike (c .before .before .before .before .before .before .before .before .before .before .if6 .taken) refl) _ (c .before .before .before .before .before .before .before .before .mark-ranged .ensures .0) (now (s .args .out)) _ (c .before .before .before .before .before .before .before .before .mark-ranged .ensures .1) (c .before .before .before .before .before .if7 .taken) _ (c .before .before .explain5 .ensures))
+    let s = c .before .before .before .before .before .before .before .before .before .before .before .before .before .before
+    .before .before .before .before .before .before .before .before .before .before .before .before .before in
+    let past-nots = c .before .before .before .before .before .before .before .before .before .before .before .before .before .before
+    .before .before .before .before .before .before .before .past-nots in
+    let entry-at = c .before .before .before .before .before .before .before .before .before .before .before .before .before .before
+    .before .before .before .before .before .before .entry-at in
+    let if1 = c .before .before .before .before .before .before .before .before .before .before .before .before .before .before
+    .before .before .before .if1 in
+    let if4 = c .before .before .before .before .before .before .before .before .before .before .before .before .before .before .before .if4 in
+    let run-of = c .before .before .before .before .before .before .before .before .before .before .before .before .before .before .run-of in
+    let if5 = c .before .before .before .before .before .before .before .before .before .before .before .before .if5 in
+    let bind = c .before .before .before .before .bind in
+    let settled-before = c .before .before .before .before .before .before .before .before .before .before .before .settled-before in
+    let if6 = c .before .before .before .before .before .before .before .before .before .before .if6 in
+    let mark-whole = c .before .before .before .before .before .before .before .before .mark-whole in
+    let if7 = c .before .before .before .before .before .if7 in
+    let explain5 = c .before .before .explain5 in
+    let u = explained.under-ready _ _ _ _ _ (past-nots .ensures .0) (now (s .args .pool)) (s .args .b) (s .pre .1 .0) in
+    let v = explained.under-verdict _ _ _ _ _ (past-nots .ensures .0) (now (s .args .pool)) (s .args .b) (s .pre .1 .1 .0 .0) in
+    let o = steps.rows-ready _ _ _ _ u _ (entry-at .ensures) (if1 .left) (if4 .taken) (run-of .result .start) (run-of .result .rows)
+    (run-of .ensures .place) in
+    let w = steps.run-whole _ _ _ _ u _ (entry-at .ensures) (if1 .left) (if4 .taken) (run-of .result .start) (run-of .result .rows)
+    (run-of .ensures) in (
+      explained.under-marked _ _ _ _ _ (past-nots .ensures .0) (now (s .args .pool)) (s .args .b) (now (s .args .out)) _
+          (explained.once-marked _ _ _ _ _ _ o _ (entry-at .ensures) _ v w (if5 .taken) _ (bind .ensures) (λ y. settled-before .ensures .alike
+          (if6 .taken) refl y) _ (mark-whole .ensures .0) (now (s .args .out)) _ (mark-whole .ensures .1 .0) (if7 .taken) _
+          (explain5 .ensures .0)),
+      explain5 .ensures .1,
+    )
 
 explain-same-length-5 : (t : ℕ) → explain-lts.Need-same-length-5 (explain-claims t) (explain-at t) explain.Post
 explain-same-length-5 t c =
-    let s = c .before .before .before .before .before .before .before .before .before .before .before .before .before .before .before .before .before .before .before .before in c .before .before .before .mark-ranged .kept .1 .1 .1 .1 .1 .0
+    let mark-whole = c .before .before .before .mark-whole in
+    mark-whole .kept .1 .1 .1 .1 .1 .1 .0
 
 explain-returns-5 : (t : ℕ) → explain-lts.Need-returns-5 (explain-claims t) (explain-at t) explain.Post
 explain-returns-5 t c =
-    let s = c .before .before .before .before .before .before .before .before .before .before .before .before .before .before .before .before .before .before .before .before in explained.under-marked (now (s .args .rule)) (s .args .entry) (s .args .verdict) (c .before .before .before .before .before .before .before .before .before .before .before .before .before .before .before .before .past-nots .result .entry) (c .before .before .before .before .before .before .before .before .before .before .before .before .before .before .before .before .past-nots .result .verdict) (c .before .before .before .before .before .before .before .before .before .before .before .before .before .before .before .before .past-nots .ensures .0) (now (s .args .pool)) (s .args .b) (now (s .args .out)) _ (explained.nowhere-marked (now (s .args .rule)) (now (s .args .pool)) (s .args .b) (c .before .before .before .before .before .before .before .before .before .before .before .before .before .before .before .before .past-nots .result .entry) (c .before .before .before .before .before .before .before .before .before .run-of .result .start) (c .before .before .before .before .before .before .before .before .before .run-of .result .rows) (steps.rows-ready (now (s .args .rule)) (now (s .args .pool)) (s .args .b) (c .before .before .before .before .before .before .before .before .before .before .before .before .before .before .before .before .past-nots .result .entry) (explained.under-ready (now (s .args .rule)) (s .args .entry) (s .args .verdict) (c .before .before .before .before .before .before .before .before .before .before .before .before .before .before .before .before .past-nots .result .entry) (c .before .before .before .before .before .before .before .before .before .before .before .before .before .before .before .before .past-nots .result .verdict) (c .before .before .before .before .before .before .before .before .before .before .before .before .before .before .before .before .past-nots .ensures .0) (now (s .args .pool)) (s .args .b) (s .pre .1 .0)) (c .before .before .before .before .before .before .before .before .before .before .before .before .before .before .before .entry-at .result) (c .before .before .before .before .before .before .before .before .before .before .before .before .before .before .before .entry-at .ensures) (c .before .before .before .before .before .before .before .before .before .before .before .before .if1 .left) (c .before .before .before .before .before .before .before .before .before .before .if4 .taken) (c .before .before .before .before .before .before .before .before .before .run-of .result .start) (c .before .before .before .before .before .before .before .before .before .run-of .result .rows) (c .before .before .before .before .before .before .before .before .before .run-of .ensures .place)) (c .before .before .before .before .before .before .before .before .before .before .before .before .before .before .before .entry-at .result) (c .before .before .before .before .before .before .before .before .before .before .before .before .before .before .before .entry-at .ensures) (c .before .before .before .before .before .before .before .before .before .before .before .before .before .before .before .before .past-nots .result .verdict) (explained.under-verdict (now (s .args .rule)) (s .args .entry) (s .args .verdict) (c .before .before .before .before .before .before .before .before .before .before .before .before .before .before .before .before .past-nots .result .entry) (c .before .before .before .before .before .before .before .before .before .before .before .before .before .before .before .before .past-nots .result .verdict) (c .before .before .before .before .before .before .before .before .before .before .before .before .before .before .before .before .past-nots .ensures .0) (now (s .args .pool)) (s .args .b) (s .pre .1 .1 .0)) (steps.run-whole (now (s .args .rule)) (now (s .args .pool)) (s .args .b) (c .before .before .before .before .before .before .before .before .before .before .before .before .before .before .before .before .past-nots .result .entry) (explained.under-ready (now (s .args .rule)) (s .args .entry) (s .args .verdict) (c .before .before .before .before .before .before .before .before .before .before .before .before .before .before .before .before .past-nots .result .entry) (c .before .before .before .before .before .before .before .before .before .before .before .before .before .before .before .before .past-nots .result .verdict) (c .before .before .before .before .before .before .before .before .before .before .before .before .before .before .before .before .past-nots .ensures .0) (now (s .args .pool)) (s .args .b) (s .pre .1 .0)) (c .before .before .before .before .before .before .before .before .before .before .before .before .before .before .before .entry-at .result) (c .before .before .before .before .before .before .before .before .before .before .before .before .before .before .before .entry-at .ensures) (c .before .before .before .before .before .before .before .before .before .before .before .before .if1 .left) (c .before .before .before .before .before .before .before .before .before .before .if4 .taken) (c .before .before .before .before .before .before .before .before .before .run-of .result .start) (c .before .before .before .before .before .before .before .before .before .run-of .result .rows) (c .before .before .before .before .before .before .before .before .before .run-of .ensures)) (c .before .before .before .before .before .before .before .if5 .taken) (bindAt (s .args .b) 0) refl (c .before .before .before .before .before .before .settled-before .ensures .alike (c .before .before .before .before .before .if6 .taken) refl) _ (c .before .before .before .mark-ranged .ensures .0) (now (s .args .out)) _ (c .before .before .before .mark-ranged .ensures .1) (c .if7 .left))
+    let s = c .before .before .before .before .before .before .before .before .before .before .before .before .before .before
+    .before .before .before .before .before .before .before .before in
+    let past-nots = c .before .before .before .before .before .before .before .before .before .before .before .before .before .before
+    .before .before .past-nots in
+    let entry-at = c .before .before .before .before .before .before .before .before .before .before .before .before .before .before
+    .before .entry-at in
+    let if1 = c .before .before .before .before .before .before .before .before .before .before .before .before .if1 in
+    let if4 = c .before .before .before .before .before .before .before .before .before .before .if4 in
+    let run-of = c .before .before .before .before .before .before .before .before .before .run-of in
+    let if5 = c .before .before .before .before .before .before .before .if5 in
+    let settled-before = c .before .before .before .before .before .before .settled-before in
+    let if6 = c .before .before .before .before .before .if6 in
+    let mark-whole = c .before .before .before .mark-whole in
+    let if7 = c .if7 in
+    let u = explained.under-ready _ _ _ _ _ (past-nots .ensures .0) (now (s .args .pool)) (s .args .b) (s .pre .1 .0) in
+    let v = explained.under-verdict _ _ _ _ _ (past-nots .ensures .0) (now (s .args .pool)) (s .args .b) (s .pre .1 .1 .0 .0) in
+    let o = steps.rows-ready _ _ _ _ u _ (entry-at .ensures) (if1 .left) (if4 .taken) (run-of .result .start) (run-of .result .rows)
+    (run-of .ensures .place) in
+    let w = steps.run-whole _ _ _ _ u _ (entry-at .ensures) (if1 .left) (if4 .taken) (run-of .result .start) (run-of .result .rows)
+    (run-of .ensures) in (
+      explained.under-marked _ _ _ _ _ (past-nots .ensures .0) (now (s .args .pool)) (s .args .b) (now (s .args .out)) _
+          (explained.nowhere-marked _ _ _ _ _ _ o _ (entry-at .ensures) _ v w (if5 .taken) _ refl (λ y. settled-before .ensures .alike
+          (if6 .taken) refl y) _ (mark-whole .ensures .0) (now (s .args .out)) _ (mark-whole .ensures .1 .0) (if7 .left)),
+      mark-whole .ensures .1 .1,
+    )
 
 explain-explain-rows-requires : (t : ℕ) → explain-lts.Need-explain-rows-requires (explain-claims t) (explain-at t) explain.Post
 explain-explain-rows-requires t c κs =
-    let s = c .before .before .before .before .before .before .before .before .before .before .before .before .before .before .before .before in (below-later (s .pre .0) (falls-later (entryCount (now (s .args .rule))) (rowCount (now (s .args .pool))) (s .args .entry) (c .before .before .before .before .before .before .before .before .before .before .before .before .past-nots .result .entry) (c .before .before .before .before .before .before .before .before .before .before .before .before .past-nots .ensures .0 .later)) (falls-rows (entryCount (now (s .args .rule))) (rowCount (now (s .args .pool))) (c .before .before .before .before .before .before .before .before .before .before .before .before .past-nots .result .entry) 0 (c .before .before .before .before .before .run-of .result .rows) ((explained.under-ready (now (s .args .rule)) (s .args .entry) (s .args .verdict) (c .before .before .before .before .before .before .before .before .before .before .before .before .past-nots .result .entry) (c .before .before .before .before .before .before .before .before .before .before .before .before .past-nots .result .verdict) (c .before .before .before .before .before .before .before .before .before .before .before .before .past-nots .ensures .0) (now (s .args .pool)) (s .args .b) (s .pre .1 .0)) .inside) (omega (arith, c .before .before .before .before .before .run-of .ensures .place))), ((steps.rows-ready (now (s .args .rule)) (now (s .args .pool)) (s .args .b) (c .before .before .before .before .before .before .before .before .before .before .before .before .past-nots .result .entry) (explained.under-ready (now (s .args .rule)) (s .args .entry) (s .args .verdict) (c .before .before .before .before .before .before .before .before .before .before .before .before .past-nots .result .entry) (c .before .before .before .before .before .before .before .before .before .before .before .before .past-nots .result .verdict) (c .before .before .before .before .before .before .before .before .before .before .before .before .past-nots .ensures .0) (now (s .args .pool)) (s .args .b) (s .pre .1 .0)) (c .before .before .before .before .before .before .before .before .before .before .before .entry-at .result) (c .before .before .before .before .before .before .before .before .before .before .before .entry-at .ensures) (c .before .before .before .before .before .before .before .before .if1 .left) (c .before .before .before .before .before .before .if4 .taken) (c .before .before .before .before .before .run-of .result .start) (c .before .before .before .before .before .run-of .result .rows) (c .before .before .before .before .before .run-of .ensures .place)), (explained.all-settled (now (s .args .rule)) (now (s .args .pool)) (s .args .b) (c .before .before .before .before .before .before .before .before .before .before .before .before .past-nots .result .entry) (c .before .before .before .before .before .run-of .result .start) (c .before .before .before .before .before .run-of .result .rows) (steps.rows-ready (now (s .args .rule)) (now (s .args .pool)) (s .args .b) (c .before .before .before .before .before .before .before .before .before .before .before .before .past-nots .result .entry) (explained.under-ready (now (s .args .rule)) (s .args .entry) (s .args .verdict) (c .before .before .before .before .before .before .before .before .before .before .before .before .past-nots .result .entry) (c .before .before .before .before .before .before .before .before .before .before .before .before .past-nots .result .verdict) (c .before .before .before .before .before .before .before .before .before .before .before .before .past-nots .ensures .0) (now (s .args .pool)) (s .args .b) (s .pre .1 .0)) (c .before .before .before .before .before .before .before .before .before .before .before .entry-at .result) (c .before .before .before .before .before .before .before .before .before .before .before .entry-at .ensures) (c .before .before .before .before .before .before .before .before .if1 .left) (c .before .before .before .before .before .before .if4 .taken) (c .before .before .before .before .before .run-of .result .start) (c .before .before .before .before .before .run-of .result .rows) (c .before .before .before .before .before .run-of .ensures .place)) (c .before .before .before .before .before .before .before .before .before .before .before .entry-at .result) (c .before .before .before .before .before .before .before .before .before .before .before .entry-at .ensures) (c .before .before .before .before .before .before .before .before .before .before .before .before .past-nots .result .verdict) (explained.under-verdict (now (s .args .rule)) (s .args .entry) (s .args .verdict) (c .before .before .before .before .before .before .before .before .before .before .before .before .past-nots .result .entry) (c .before .before .before .before .before .before .before .before .before .before .before .before .past-nots .result .verdict) (c .before .before .before .before .before .before .before .before .before .before .before .before .past-nots .ensures .0) (now (s .args .pool)) (s .args .b) (s .pre .1 .1 .0)) (steps.run-whole (now (s .args .rule)) (now (s .args .pool)) (s .args .b) (c .before .before .before .before .before .before .before .before .before .before .before .before .past-nots .result .entry) (explained.under-ready (now (s .args .rule)) (s .args .entry) (s .args .verdict) (c .before .before .before .before .before .before .before .before .before .before .before .before .past-nots .result .entry) (c .before .before .before .before .before .before .before .before .before .before .before .before .past-nots .result .verdict) (c .before .before .before .before .before .before .before .before .before .before .before .before .past-nots .ensures .0) (now (s .args .pool)) (s .args .b) (s .pre .1 .0)) (c .before .before .before .before .before .before .before .before .before .before .before .entry-at .result) (c .before .before .before .before .before .before .before .before .before .before .before .entry-at .ensures) (c .before .before .before .before .before .before .before .before .if1 .left) (c .before .before .before .before .before .before .if4 .taken) (c .before .before .before .before .before .run-of .result .start) (c .before .before .before .before .before .run-of .result .rows) (c .before .before .before .before .before .run-of .ensures)) (c .before .before .before .if5 .taken), s .pre .1 .1 .1)))
+    let s = c .before .before .before .before .before .before .before .before .before .before .before .before .before .before
+    .before .before .before .before in
+    let past-nots = c .before .before .before .before .before .before .before .before .before .before .before .before .past-nots in
+    let entry-at = c .before .before .before .before .before .before .before .before .before .before .before .entry-at in
+    let if1 = c .before .before .before .before .before .before .before .before .if1 in
+    let if4 = c .before .before .before .before .before .before .if4 in
+    let run-of = c .before .before .before .before .before .run-of in
+    let if5 = c .before .before .before .if5 in
+    let u = explained.under-ready _ _ _ _ _ (past-nots .ensures .0) (now (s .args .pool)) (s .args .b) (s .pre .1 .0) in
+    let v = explained.under-verdict _ _ _ _ _ (past-nots .ensures .0) (now (s .args .pool)) (s .args .b) (s .pre .1 .1 .0 .0) in
+    let o = steps.rows-ready _ _ _ _ u _ (entry-at .ensures) (if1 .left) (if4 .taken) (run-of .result .start) (run-of .result .rows)
+    (run-of .ensures .place) in
+    let w = steps.run-whole _ _ _ _ u _ (entry-at .ensures) (if1 .left) (if4 .taken) (run-of .result .start) (run-of .result .rows)
+    (run-of .ensures) in (
+      below-later (s .pre .0) (falls-later (entryCount (now (s .args .rule))) (rowCount (now (s .args .pool))) (s .args .entry)
+          (past-nots .result .entry) (past-nots .ensures .0 .later)) (falls-rows (entryCount (now (s .args .rule))) (rowCount (now
+          (s .args .pool))) (past-nots .result .entry) 0 (run-of .result .rows) (past-nots .ensures .0 .inside) (omega (
+            arith,
+            run-of .ensures .place,
+          ))),
+      (
+        o,
+        (
+          (explained.all-settled _ _ _ _ _ _ o _ (entry-at .ensures) _ v w (if5 .taken), s .pre .1 .1 .0 .1),
+          (s .pre .1 .1 .1 .0, s .pre .1 .1 .1 .1),
+        ),
+      ),
+    )
 
 explain-same-length-6 : (t : ℕ) → explain-lts.Need-same-length-6 (explain-claims t) (explain-at t) explain.Post
 explain-same-length-6 t c =
-    let s = c .before .before .before .before .before .before .before .before .before .before .before .before .before .before .before .before .before .before .before in c .before .before .explain-rows .kept .1 .1 .1 .1 .1 .1 .0
+    let explain-rows = c .before .before .explain-rows in
+    explain-rows .kept .1 .1 .1 .1 .1 .1 .1 .1 .1 .0
 
 explain-returns-6 : (t : ℕ) → explain-lts.Need-returns-6 (explain-claims t) (explain-at t) explain.Post
 explain-returns-6 t c =
-    let s = c .before .before .before .before .before .before .before .before .before .before .before .before .before .before .before .before .before .before .before in explained.under-marked (now (s .args .rule)) (s .args .entry) (s .args .verdict) (c .before .before .before .before .before .before .before .before .before .before .before .before .before .before .before .past-nots .result .entry) (c .before .before .before .before .before .before .before .before .before .before .before .before .before .before .before .past-nots .result .verdict) (c .before .before .before .before .before .before .before .before .before .before .before .before .before .before .before .past-nots .ensures .0) (now (s .args .pool)) (s .args .b) (now (s .args .out)) _ (explained.all-marked (now (s .args .rule)) (now (s .args .pool)) (s .args .b) (c .before .before .before .before .before .before .before .before .before .before .before .before .before .before .before .past-nots .result .entry) (c .before .before .before .before .before .before .before .before .run-of .result .start) (c .before .before .before .before .before .before .before .before .run-of .result .rows) (steps.rows-ready (now (s .args .rule)) (now (s .args .pool)) (s .args .b) (c .before .before .before .before .before .before .before .before .before .before .before .before .before .before .before .past-nots .result .entry) (explained.under-ready (now (s .args .rule)) (s .args .entry) (s .args .verdict) (c .before .before .before .before .before .before .before .before .before .before .before .before .before .before .before .past-nots .result .entry) (c .before .before .before .before .before .before .before .before .before .before .before .before .before .before .before .past-nots .result .verdict) (c .before .before .before .before .before .before .before .before .before .before .before .before .before .before .before .past-nots .ensures .0) (now (s .args .pool)) (s .args .b) (s .pre .1 .0)) (c .before .before .before .before .before .before .before .before .before .before .before .before .before .before .entry-at .result) (c .before .before .before .before .before .before .before .before .before .before .before .before .before .before .entry-at .ensures) (c .before .before .before .before .before .before .before .before .before .before .before .if1 .left) (c .before .before .before .before .before .before .before .before .before .if4 .taken) (c .before .before .before .before .before .before .before .before .run-of .result .start) (c .before .before .before .before .before .before .before .before .run-of .result .rows) (c .before .before .before .before .before .before .before .before .run-of .ensures .place)) (c .before .before .before .before .before .before .before .before .before .before .before .before .before .before .entry-at .result) (c .before .before .before .before .before .before .before .before .before .before .before .before .before .before .entry-at .ensures) (c .before .before .before .before .before .before .before .before .before .before .before .before .before .before .before .past-nots .result .verdict) (explained.under-verdict (now (s .args .rule)) (s .args .entry) (s .args .verdict) (c .before .before .before .before .before .before .before .before .before .before .before .before .before .before .before .past-nots .result .entry) (c .before .before .before .before .before .before .before .before .before .before .before .before .before .before .before .past-nots .result .verdict) (c .before .before .before .before .before .before .before .before .before .before .before .before .before .before .before .past-nots .ensures .0) (now (s .args .pool)) (s .args .b) (s .pre .1 .1 .0)) (steps.run-whole (now (s .args .rule)) (now (s .args .pool)) (s .args .b) (c .before .before .before .before .before .before .before .before .before .before .before .before .before .before .before .past-nots .result .entry) (explained.under-ready (now (s .args .rule)) (s .args .entry) (s .args .verdict) (c .before .before .before .before .before .before .before .before .before .before .before .before .before .before .before .past-nots .result .entry) (c .before .before .before .before .before .before .before .before .before .before .before .before .before .before .before .past-nots .result .verdict) (c .before .before .before .before .before .before .before .before .before .before .before .before .before .before .before .past-nots .ensures .0) (now (s .args .pool)) (s .args .b) (s .pre .1 .0)) (c .before .before .before .before .before .before .before .before .before .before .before .before .before .before .entry-at .result) (c .before .before .before .before .before .before .before .before .before .before .before .before .before .before .entry-at .ensures) (c .before .before .before .before .before .before .before .before .before .before .before .if1 .left) (c .before .before .before .before .before .before .before .before .before .if4 .taken) (c .before .before .before .before .before .before .before .before .run-of .result .start) (c .before .before .before .before .before .before .before .before .run-of .result .rows) (c .before .before .before .before .before .before .before .before .run-of .ensures)) (c .before .before .before .before .before .before .if5 .taken) (now (s .args .out)) _ (c .before .before .explain-rows .ensures))
+    let s = c .before .before .before .before .before .before .before .before .before .before .before .before .before .before
+    .before .before .before .before .before .before .before in
+    let past-nots = c .before .before .before .before .before .before .before .before .before .before .before .before .before .before
+    .before .past-nots in
+    let entry-at = c .before .before .before .before .before .before .before .before .before .before .before .before .before .before .entry-at in
+    let if1 = c .before .before .before .before .before .before .before .before .before .before .before .if1 in
+    let if4 = c .before .before .before .before .before .before .before .before .before .if4 in
+    let run-of = c .before .before .before .before .before .before .before .before .run-of in
+    let if5 = c .before .before .before .before .before .before .if5 in
+    let explain-rows = c .before .before .explain-rows in
+    let u = explained.under-ready _ _ _ _ _ (past-nots .ensures .0) (now (s .args .pool)) (s .args .b) (s .pre .1 .0) in
+    let v = explained.under-verdict _ _ _ _ _ (past-nots .ensures .0) (now (s .args .pool)) (s .args .b) (s .pre .1 .1 .0 .0) in
+    let o = steps.rows-ready _ _ _ _ u _ (entry-at .ensures) (if1 .left) (if4 .taken) (run-of .result .start) (run-of .result .rows)
+    (run-of .ensures .place) in
+    let w = steps.run-whole _ _ _ _ u _ (entry-at .ensures) (if1 .left) (if4 .taken) (run-of .result .start) (run-of .result .rows)
+    (run-of .ensures) in (
+      explained.under-marked _ _ _ _ _ (past-nots .ensures .0) (now (s .args .pool)) (s .args .b) (now (s .args .out)) _
+          (explained.all-marked _ _ _ _ _ _ o _ (entry-at .ensures) _ v w (if5 .taken) (now (s .args .out)) _ (explain-rows .ensures .0)),
+      explain-rows .ensures .1,
+    )
 
 explain-first-deciding-requires : (t : ℕ) → explain-lts.Need-first-deciding-requires (explain-claims t) (explain-at t) explain.Post
 explain-first-deciding-requires t c κs =
-    let s = c .before .before .before .before .before .before .before .before .before .before .before .before .before in (steps.rows-ready (now (s .args .rule)) (now (s .args .pool)) (s .args .b) (c .before .before .before .before .before .before .before .before .before .past-nots .result .entry) (explained.under-ready (now (s .args .rule)) (s .args .entry) (s .args .verdict) (c .before .before .before .before .before .before .before .before .before .past-nots .result .entry) (c .before .before .before .before .before .before .before .before .before .past-nots .result .verdict) (c .before .before .before .before .before .before .before .before .before .past-nots .ensures .0) (now (s .args .pool)) (s .args .b) (s .pre .1 .0)) (c .before .before .before .before .before .before .before .before .entry-at .result) (c .before .before .before .before .before .before .before .before .entry-at .ensures) (c .before .before .before .before .before .if1 .left) (c .before .before .before .if4 .taken) (c .before .before .run-of .result .start) (c .before .before .run-of .result .rows) (c .before .before .run-of .ensures .place))
+    let s = c .before .before .before .before .before .before .before .before .before .before .before .before .before .before .before in
+    let past-nots = c .before .before .before .before .before .before .before .before .before .past-nots in
+    let entry-at = c .before .before .before .before .before .before .before .before .entry-at in
+    let if1 = c .before .before .before .before .before .if1 in
+    let if4 = c .before .before .before .if4 in
+    let run-of = c .before .before .run-of in
+    let u = explained.under-ready _ _ _ _ _ (past-nots .ensures .0) (now (s .args .pool)) (s .args .b) (s .pre .1 .0) in
+    let o = steps.rows-ready _ _ _ _ u _ (entry-at .ensures) (if1 .left) (if4 .taken) (run-of .result .start) (run-of .result .rows)
+    (run-of .ensures .place) in
+    (o, s .pre .1 .1 .1 .0)
 
 explain-slice-write-out : (t : ℕ) → explain-lts.Need-slice-write-out (explain-claims t) (explain-at t) explain.Post
 explain-slice-write-out t c =
-    let s = c .before .before .before .before .before .before .before .before .before .before .before .before .before .before in omega (arith, s .pre .1 .1 .1, explained.deciding-place (now (s .args .rule)) (now (s .args .pool)) (s .args .b) (c .before .before .before .before .before .before .before .before .before .before .past-nots .result .entry) (c .before .before .before .run-of .result .start) (c .before .before .before .run-of .result .rows) (steps.rows-ready (now (s .args .rule)) (now (s .args .pool)) (s .args .b) (c .before .before .before .before .before .before .before .before .before .before .past-nots .result .entry) (explained.under-ready (now (s .args .rule)) (s .args .entry) (s .args .verdict) (c .before .before .before .before .before .before .before .before .before .before .past-nots .result .entry) (c .before .before .before .before .before .before .before .before .before .before .past-nots .result .verdict) (c .before .before .before .before .before .before .before .before .before .before .past-nots .ensures .0) (now (s .args .pool)) (s .args .b) (s .pre .1 .0)) (c .before .before .before .before .before .before .before .before .before .entry-at .result) (c .before .before .before .before .before .before .before .before .before .entry-at .ensures) (c .before .before .before .before .before .before .if1 .left) (c .before .before .before .before .if4 .taken) (c .before .before .before .run-of .result .start) (c .before .before .before .run-of .result .rows) (c .before .before .before .run-of .ensures .place)) (c .before .before .before .before .before .before .before .before .before .entry-at .result) (c .before .before .before .before .before .before .before .before .before .entry-at .ensures) (c .before .before .before .before .before .before .before .before .before .before .past-nots .result .verdict) (explained.under-verdict (now (s .args .rule)) (s .args .entry) (s .args .verdict) (c .before .before .before .before .before .before .before .before .before .before .past-nots .result .entry) (c .before .before .before .before .before .before .before .before .before .before .past-nots .result .verdict) (c .before .before .before .before .before .before .before .before .before .before .past-nots .ensures .0) (now (s .args .pool)) (s .args .b) (s .pre .1 .1 .0)) (steps.run-whole (now (s .args .rule)) (now (s .args .pool)) (s .args .b) (c .before .before .before .before .before .before .before .before .before .before .past-nots .result .entry) (explained.under-ready (now (s .args .rule)) (s .args .entry) (s .args .verdict) (c .before .before .before .before .before .before .before .before .before .before .past-nots .result .entry) (c .before .before .before .before .before .before .before .before .before .before .past-nots .result .verdict) (c .before .before .before .before .before .before .before .before .before .before .past-nots .ensures .0) (now (s .args .pool)) (s .args .b) (s .pre .1 .0)) (c .before .before .before .before .before .before .before .before .before .entry-at .result) (c .before .before .before .before .before .before .before .before .before .entry-at .ensures) (c .before .before .before .before .before .before .if1 .left) (c .before .before .before .before .if4 .taken) (c .before .before .before .run-of .result .start) (c .before .before .before .run-of .result .rows) (c .before .before .before .run-of .ensures)) (c .before .if5 .left) (c .first-deciding .result) (c .first-deciding .ensures), c .before .before .before .run-of .ensures .place)
+    let s = c .before .before .before .before .before .before .before .before .before .before .before .before .before .before .before .before in
+    let past-nots = c .before .before .before .before .before .before .before .before .before .before .past-nots in
+    let entry-at = c .before .before .before .before .before .before .before .before .before .entry-at in
+    let if1 = c .before .before .before .before .before .before .if1 in
+    let if4 = c .before .before .before .before .if4 in
+    let run-of = c .before .before .before .run-of in
+    let if5 = c .before .if5 in
+    let first-deciding = c .first-deciding in
+    let u = explained.under-ready _ _ _ _ _ (past-nots .ensures .0) (now (s .args .pool)) (s .args .b) (s .pre .1 .0) in
+    let v = explained.under-verdict _ _ _ _ _ (past-nots .ensures .0) (now (s .args .pool)) (s .args .b) (s .pre .1 .1 .0 .0) in
+    let o = steps.rows-ready _ _ _ _ u _ (entry-at .ensures) (if1 .left) (if4 .taken) (run-of .result .start) (run-of .result .rows)
+    (run-of .ensures .place) in
+    let w = steps.run-whole _ _ _ _ u _ (entry-at .ensures) (if1 .left) (if4 .taken) (run-of .result .start) (run-of .result .rows)
+    (run-of .ensures) in
+    omega (
+      arith,
+      explained.deciding-place _ _ _ _ _ _ o _ (entry-at .ensures) _ v w (if5 .left) (first-deciding .result)
+          (first-deciding .ensures),
+      run-of .ensures .place,
+      s .pre .1 .1 .0 .1,
+    )
 
 explain-add-bind : (t : ℕ) → explain-lts.Need-add-bind (explain-claims t) (explain-at t) explain.Post
 explain-add-bind t c =
-    let s = c .before .before .before .before .before .before .before .before .before .before .before .before .before .before in omega (arith, s .pre .1 .1 .1, explained.deciding-place (now (s .args .rule)) (now (s .args .pool)) (s .args .b) (c .before .before .before .before .before .before .before .before .before .before .past-nots .result .entry) (c .before .before .before .run-of .result .start) (c .before .before .before .run-of .result .rows) (steps.rows-ready (now (s .args .rule)) (now (s .args .pool)) (s .args .b) (c .before .before .before .before .before .before .before .before .before .before .past-nots .result .entry) (explained.under-ready (now (s .args .rule)) (s .args .entry) (s .args .verdict) (c .before .before .before .before .before .before .before .before .before .before .past-nots .result .entry) (c .before .before .before .before .before .before .before .before .before .before .past-nots .result .verdict) (c .before .before .before .before .before .before .before .before .before .before .past-nots .ensures .0) (now (s .args .pool)) (s .args .b) (s .pre .1 .0)) (c .before .before .before .before .before .before .before .before .before .entry-at .result) (c .before .before .before .before .before .before .before .before .before .entry-at .ensures) (c .before .before .before .before .before .before .if1 .left) (c .before .before .before .before .if4 .taken) (c .before .before .before .run-of .result .start) (c .before .before .before .run-of .result .rows) (c .before .before .before .run-of .ensures .place)) (c .before .before .before .before .before .before .before .before .before .entry-at .result) (c .before .before .before .before .before .before .before .before .before .entry-at .ensures) (c .before .before .before .before .before .before .before .before .before .before .past-nots .result .verdict) (explained.under-verdict (now (s .args .rule)) (s .args .entry) (s .args .verdict) (c .before .before .before .before .before .before .before .before .before .before .past-nots .result .entry) (c .before .before .before .before .before .before .before .before .before .before .past-nots .result .verdict) (c .before .before .before .before .before .before .before .before .before .before .past-nots .ensures .0) (now (s .args .pool)) (s .args .b) (s .pre .1 .1 .0)) (steps.run-whole (now (s .args .rule)) (now (s .args .pool)) (s .args .b) (c .before .before .before .before .before .before .before .before .before .before .past-nots .result .entry) (explained.under-ready (now (s .args .rule)) (s .args .entry) (s .args .verdict) (c .before .before .before .before .before .before .before .before .before .before .past-nots .result .entry) (c .before .before .before .before .before .before .before .before .before .before .past-nots .result .verdict) (c .before .before .before .before .before .before .before .before .before .before .past-nots .ensures .0) (now (s .args .pool)) (s .args .b) (s .pre .1 .0)) (c .before .before .before .before .before .before .before .before .before .entry-at .result) (c .before .before .before .before .before .before .before .before .before .entry-at .ensures) (c .before .before .before .before .before .before .if1 .left) (c .before .before .before .before .if4 .taken) (c .before .before .before .run-of .result .start) (c .before .before .before .run-of .result .rows) (c .before .before .before .run-of .ensures)) (c .before .if5 .left) (c .first-deciding .result) (c .first-deciding .ensures), c .before .before .before .run-of .ensures .place)
+    let s = c .before .before .before .before .before .before .before .before .before .before .before .before .before .before .before .before in
+    let past-nots = c .before .before .before .before .before .before .before .before .before .before .past-nots in
+    let entry-at = c .before .before .before .before .before .before .before .before .before .entry-at in
+    let if1 = c .before .before .before .before .before .before .if1 in
+    let if4 = c .before .before .before .before .if4 in
+    let run-of = c .before .before .before .run-of in
+    let if5 = c .before .if5 in
+    let first-deciding = c .first-deciding in
+    let u = explained.under-ready _ _ _ _ _ (past-nots .ensures .0) (now (s .args .pool)) (s .args .b) (s .pre .1 .0) in
+    let v = explained.under-verdict _ _ _ _ _ (past-nots .ensures .0) (now (s .args .pool)) (s .args .b) (s .pre .1 .1 .0 .0) in
+    let o = steps.rows-ready _ _ _ _ u _ (entry-at .ensures) (if1 .left) (if4 .taken) (run-of .result .start) (run-of .result .rows)
+    (run-of .ensures .place) in
+    let w = steps.run-whole _ _ _ _ u _ (entry-at .ensures) (if1 .left) (if4 .taken) (run-of .result .start) (run-of .result .rows)
+    (run-of .ensures) in
+    omega (
+      arith,
+      explained.deciding-place _ _ _ _ _ _ o _ (entry-at .ensures) _ v w (if5 .left) (first-deciding .result)
+          (first-deciding .ensures),
+      run-of .ensures .place,
+      s .pre .1 .1 .0 .1,
+    )
 
 explain-bind-requires-2 : (t : ℕ) → explain-lts.Need-bind-requires-2 (explain-claims t) (explain-at t) explain.Post
 explain-bind-requires-2 t c κs =
@@ -196,82 +601,176 @@ explain-bind-requires-2 t c κs =
 
 explain-explain-requires-6 : (t : ℕ) → explain-lts.Need-explain-requires-6 (explain-claims t) (explain-at t) explain.Post
 explain-explain-requires-6 t c κs =
-    let s = c .before .before .before .before .before .before .before .before .before .before .before .before .before .before .before .before in let l = steps.body-later (now (s .args .rule)) (now (s .args .pool)) (s .args .b) (c .before .before .before .before .before .before .before .before .before .before .before .before .past-nots .result .entry) (c .before .before .before .before .before .run-of .result .start) (c .before .before .before .before .before .run-of .result .rows) (steps.rows-ready (now (s .args .rule)) (now (s .args .pool)) (s .args .b) (c .before .before .before .before .before .before .before .before .before .before .before .before .past-nots .result .entry) (explained.under-ready (now (s .args .rule)) (s .args .entry) (s .args .verdict) (c .before .before .before .before .before .before .before .before .before .before .before .before .past-nots .result .entry) (c .before .before .before .before .before .before .before .before .before .before .before .before .past-nots .result .verdict) (c .before .before .before .before .before .before .before .before .before .before .before .before .past-nots .ensures .0) (now (s .args .pool)) (s .args .b) (s .pre .1 .0)) (c .before .before .before .before .before .before .before .before .before .before .before .entry-at .result) (c .before .before .before .before .before .before .before .before .before .before .before .entry-at .ensures) (c .before .before .before .before .before .before .before .before .if1 .left) (c .before .before .before .before .before .before .if4 .taken) (c .before .before .before .before .before .run-of .result .start) (c .before .before .before .before .before .run-of .result .rows) (c .before .before .before .before .before .run-of .ensures .place)) (c .before .before .before .before .before .before .before .before .before .before .before .entry-at .result) (c .before .before .before .before .before .before .before .before .before .before .before .entry-at .ensures) in (below-later (s .pre .0) (falls-later (entryCount (now (s .args .rule))) (rowCount (now (s .args .pool))) (s .args .entry) (c .before .before .before .before .before .before .before .before .before .before .before .before .past-nots .result .entry) (c .before .before .before .before .before .before .before .before .before .before .before .before .past-nots .ensures .0 .later)) (falls-child (entryCount (now (s .args .rule))) (rowCount (now (s .args .pool))) (c .before .before .before .before .before .before .before .before .before .before .before .before .past-nots .result .entry) _ (l .0) (l .1)), (steps.bound-ready (now (s .args .rule)) (now (s .args .pool)) (s .args .b) (c .before .before .before .before .before .before .before .before .before .before .before .before .past-nots .result .entry) (c .before .before .before .before .before .run-of .result .start) (c .before .before .before .before .before .run-of .result .rows) (steps.rows-ready (now (s .args .rule)) (now (s .args .pool)) (s .args .b) (c .before .before .before .before .before .before .before .before .before .before .before .before .past-nots .result .entry) (explained.under-ready (now (s .args .rule)) (s .args .entry) (s .args .verdict) (c .before .before .before .before .before .before .before .before .before .before .before .before .past-nots .result .entry) (c .before .before .before .before .before .before .before .before .before .before .before .before .past-nots .result .verdict) (c .before .before .before .before .before .before .before .before .before .before .before .before .past-nots .ensures .0) (now (s .args .pool)) (s .args .b) (s .pre .1 .0)) (c .before .before .before .before .before .before .before .before .before .before .before .entry-at .result) (c .before .before .before .before .before .before .before .before .before .before .before .entry-at .ensures) (c .before .before .before .before .before .before .before .before .if1 .left) (c .before .before .before .before .before .before .if4 .taken) (c .before .before .before .before .before .run-of .result .start) (c .before .before .before .before .before .run-of .result .rows) (c .before .before .before .before .before .run-of .ensures .place)) (c .before .before .before .before .before .before .before .before .before .before .before .entry-at .result) (c .before .before .before .before .before .before .before .before .before .before .before .entry-at .ensures) (c .before .before .first-deciding .result + 1) (omega (arith, explained.deciding-place (now (s .args .rule)) (now (s .args .pool)) (s .args .b) (c .before .before .before .before .before .before .before .before .before .before .before .before .past-nots .result .entry) (c .before .before .before .before .before .run-of .result .start) (c .before .before .before .before .before .run-of .result .rows) (steps.rows-ready (now (s .args .rule)) (now (s .args .pool)) (s .args .b) (c .before .before .before .before .before .before .before .before .before .before .before .before .past-nots .result .entry) (explained.under-ready (now (s .args .rule)) (s .args .entry) (s .args .verdict) (c .before .before .before .before .before .before .before .before .before .before .before .before .past-nots .result .entry) (c .before .before .before .before .before .before .before .before .before .before .before .before .past-nots .result .verdict) (c .before .before .before .before .before .before .before .before .before .before .before .before .past-nots .ensures .0) (now (s .args .pool)) (s .args .b) (s .pre .1 .0)) (c .before .before .before .before .before .before .before .before .before .before .before .entry-at .result) (c .before .before .before .before .before .before .before .before .before .before .before .entry-at .ensures) (c .before .before .before .before .before .before .before .before .if1 .left) (c .before .before .before .before .before .before .if4 .taken) (c .before .before .before .before .before .run-of .result .start) (c .before .before .before .before .before .run-of .result .rows) (c .before .before .before .before .before .run-of .ensures .place)) (c .before .before .before .before .before .before .before .before .before .before .before .entry-at .result) (c .before .before .before .before .before .before .before .before .before .before .before .entry-at .ensures) (c .before .before .before .before .before .before .before .before .before .before .before .before .past-nots .result .verdict) (explained.under-verdict (now (s .args .rule)) (s .args .entry) (s .args .verdict) (c .before .before .before .before .before .before .before .before .before .before .before .before .past-nots .result .entry) (c .before .before .before .before .before .before .before .before .before .before .before .before .past-nots .result .verdict) (c .before .before .before .before .before .before .before .before .before .before .before .before .past-nots .ensures .0) (now (s .args .pool)) (s .args .b) (s .pre .1 .1 .0)) (steps.run-whole (now (s .args .rule)) (now (s .args .pool)) (s .args .b) (c .before .before .before .before .before .before .before .before .before .before .before .before .past-nots .result .entry) (explained.under-ready (now (s .args .rule)) (s .args .entry) (s .args .verdict) (c .before .before .before .before .before .before .before .before .before .before .before .before .past-nots .result .entry) (c .before .before .before .before .before .before .before .before .before .before .before .before .past-nots .result .verdict) (c .before .before .before .before .before .before .before .before .before .before .before .before .past-nots .ensures .0) (now (s .args .pool)) (s .args .b) (s .pre .1 .0)) (c .before .before .before .before .before .before .before .before .before .before .before .entry-at .result) (c .before .before .before .before .before .before .before .before .before .before .before .entry-at .ensures) (c .before .before .before .before .before .before .before .before .if1 .left) (c .before .before .before .before .before .before .if4 .taken) (c .before .before .before .before .before .run-of .result .start) (c .before .before .before .before .before .run-of .result .rows) (c .before .before .before .before .before .run-of .ensures)) (c .before .before .before .if5 .left) (c .before .before .first-deciding .result) (c .before .before .first-deciding .ensures), c .before .before .before .before .before .run-of .ensures .place)) _ (c .before .bind2 .ensures), (explained.deciding-verdict (now (s .args .rule)) (now (s .args .pool)) (s .args .b) (c .before .before .before .before .before .before .before .before .before .before .before .before .past-nots .result .entry) (c .before .before .before .before .before .run-of .result .start) (c .before .before .before .before .before .run-of .result .rows) (steps.rows-ready (now (s .args .rule)) (now (s .args .pool)) (s .args .b) (c .before .before .before .before .before .before .before .before .before .before .before .before .past-nots .result .entry) (explained.under-ready (now (s .args .rule)) (s .args .entry) (s .args .verdict) (c .before .before .before .before .before .before .before .before .before .before .before .before .past-nots .result .entry) (c .before .before .before .before .before .before .before .before .before .before .before .before .past-nots .result .verdict) (c .before .before .before .before .before .before .before .before .before .before .before .before .past-nots .ensures .0) (now (s .args .pool)) (s .args .b) (s .pre .1 .0)) (c .before .before .before .before .before .before .before .before .before .before .before .entry-at .result) (c .before .before .before .before .before .before .before .before .before .before .before .entry-at .ensures) (c .before .before .before .before .before .before .before .before .if1 .left) (c .before .before .before .before .before .before .if4 .taken) (c .before .before .before .before .before .run-of .result .start) (c .before .before .before .before .before .run-of .result .rows) (c .before .before .before .before .before .run-of .ensures .place)) (c .before .before .before .before .before .before .before .before .before .before .before .entry-at .result) (c .before .before .before .before .before .before .before .before .before .before .before .entry-at .ensures) (c .before .before .before .before .before .before .before .before .before .before .before .before .past-nots .result .verdict) (explained.under-verdict (now (s .args .rule)) (s .args .entry) (s .args .verdict) (c .before .before .before .before .before .before .before .before .before .before .before .before .past-nots .result .entry) (c .before .before .before .before .before .before .before .before .before .before .before .before .past-nots .result .verdict) (c .before .before .before .before .before .before .before .before .before .before .before .before .past-nots .ensures .0) (now (s .args .pool)) (s .args .b) (s .pre .1 .1 .0)) (steps.run-whole (now (s .args .rule)) (now (s .args .pool)) (s .args .b) (c .before .before .before .before .before .before .before .before .before .before .before .before .past-nots .result .entry) (explained.under-ready (now (s .args .rule)) (s .args .entry) (s .args .verdict) (c .before .before .before .before .before .before .before .before .before .before .before .before .past-nots .result .entry) (c .before .before .before .before .before .before .before .before .before .before .before .before .past-nots .result .verdict) (c .before .before .before .before .before .before .before .before .before .before .before .before .past-nots .ensures .0) (now (s .args .pool)) (s .args .b) (s .pre .1 .0)) (c .before .before .before .before .before .before .before .before .before .before .before .entry-at .result) (c .before .before .before .before .before .before .before .before .before .before .before .entry-at .ensures) (c .before .before .before .before .before .before .before .before .if1 .left) (c .before .before .before .before .before .before .if4 .taken) (c .before .before .before .before .before .run-of .result .start) (c .before .before .before .before .before .run-of .result .rows) (c .before .before .before .before .before .run-of .ensures)) (c .before .before .before .if5 .left) (c .before .before .first-deciding .result) (c .before .before .first-deciding .ensures) _ (c .before .bind2 .ensures), simp length-set (s .pre .1 .1 .1))))
+    let s = c .before .before .before .before .before .before .before .before .before .before .before .before .before .before
+    .before .before .before .before in
+    let past-nots = c .before .before .before .before .before .before .before .before .before .before .before .before .past-nots in
+    let entry-at = c .before .before .before .before .before .before .before .before .before .before .before .entry-at in
+    let if1 = c .before .before .before .before .before .before .before .before .if1 in
+    let if4 = c .before .before .before .before .before .before .if4 in
+    let run-of = c .before .before .before .before .before .run-of in
+    let first-deciding = c .before .before .first-deciding in
+    let if5 = c .before .before .before .if5 in
+    let bind2 = c .before .bind2 in
+    let u = explained.under-ready _ _ _ _ _ (past-nots .ensures .0) (now (s .args .pool)) (s .args .b) (s .pre .1 .0) in
+    let v = explained.under-verdict _ _ _ _ _ (past-nots .ensures .0) (now (s .args .pool)) (s .args .b) (s .pre .1 .1 .0 .0) in
+    let o = steps.rows-ready _ _ _ _ u _ (entry-at .ensures) (if1 .left) (if4 .taken) (run-of .result .start) (run-of .result .rows)
+    (run-of .ensures .place) in
+    let w = steps.run-whole _ _ _ _ u _ (entry-at .ensures) (if1 .left) (if4 .taken) (run-of .result .start) (run-of .result .rows)
+    (run-of .ensures) in
+    let l = steps.body-later _ _ _ _ _ _ o _ (entry-at .ensures) in (
+      below-later (s .pre .0) (falls-later (entryCount (now (s .args .rule))) (rowCount (now (s .args .pool))) (s .args .entry)
+          (past-nots .result .entry) (past-nots .ensures .0 .later)) (falls-child (entryCount (now (s .args .rule))) (rowCount (now
+          (s .args .pool))) (past-nots .result .entry) _ (l .0) (l .1)),
+      (
+        steps.bound-ready _ _ _ _ _ _ o _ (entry-at .ensures)
+            (first-deciding .result + 1) (omega (
+              arith,
+              explained.deciding-place _ _ _ _ _ _ o _ (entry-at .ensures) _ v w (if5 .left)
+                  (first-deciding .result) (first-deciding .ensures),
+              run-of .ensures .place,
+            )) _ (bind2 .ensures),
+        (
+          (
+            explained.deciding-verdict _ _ _ _
+                _ _ o _ (entry-at .ensures) _ v w (if5 .left) (first-deciding .result) (first-deciding .ensures) _ (bind2 .ensures),
+            simp length-set
+                (s .pre .1 .1 .0 .1),
+          ),
+          (
+            s .pre .1 .1 .1 .0,
+            whole-with-row (now (s .args .pool)) (s .args .whole) (now (s .args .out))
+                (s .pre .1 .1 .1 .1) (s .pre .1 .0 .pool-accepted) (first-deciding .result) (omega (
+                  arith,
+                  explained.deciding-place _ _ _ _ _ _ o _
+                      (entry-at .ensures) _ v w (if5 .left) (first-deciding .result) (first-deciding .ensures),
+                  run-of .ensures .place,
+                )),
+          ),
+        ),
+      ),
+    )
 
 explain-same-length-7 : (t : ℕ) → explain-lts.Need-same-length-7 (explain-claims t) (explain-at t) explain.Post
 explain-same-length-7 t c =
-    let s = c .before .before .before .before .before .before .before .before .before .before .before .before .before .before .before .before .before .before .before in c .before .before .explain6 .kept .1 .1 .1 .1 .1 .0 ∙ length-set (now (s .args .out)) (c .before .before .before .before .before .first-deciding .result) _
+    let s = c .before .before .before .before .before .before .before .before .before .before .before .before .before .before
+    .before .before .before .before .before .before .before in
+    let explain6 = c .before .before .explain6 in
+    let first-deciding = c .before .before .before .before .before .first-deciding in
+    explain6 .kept .1 .1 .1 .1 .1 .1 .1 .1 .0 ∙ length-set (now (s .args .out)) (first-deciding .result) _
 
 explain-returns-7 : (t : ℕ) → explain-lts.Need-returns-7 (explain-claims t) (explain-at t) explain.Post
 explain-returns-7 t c =
-    let s = c .before .before .before .before .before .before .before .before .before .before .before .before .before .before .before .before .before .before .before in explained.under-marked (now (s .args .rule)) (s .args .entry) (s .args .verdict) (c .before .before .before .before .before .before .before .before .before .before .before .before .before .before .before .past-nots .result .entry) (c .before .before .before .before .before .before .before .before .before .before .before .before .before .before .before .past-nots .result .verdict) (c .before .before .before .before .before .before .before .before .before .before .before .before .before .before .before .past-nots .ensures .0) (now (s .args .pool)) (s .args .b) (now (s .args .out)) _ (explained.first-marked (now (s .args .rule)) (now (s .args .pool)) (s .args .b) (c .before .before .before .before .before .before .before .before .before .before .before .before .before .before .before .past-nots .result .entry) (c .before .before .before .before .before .before .before .before .run-of .result .start) (c .before .before .before .before .before .before .before .before .run-of .result .rows) (steps.rows-ready (now (s .args .rule)) (now (s .args .pool)) (s .args .b) (c .before .before .before .before .before .before .before .before .before .before .before .before .before .before .before .past-nots .result .entry) (explained.under-ready (now (s .args .rule)) (s .args .entry) (s .args .verdict) (c .before .before .before .before .before .before .before .before .before .before .before .before .before .before .before .past-nots .result .entry) (c .before .before .before .before .before .before .before .before .before .before .before .before .before .before .before .past-nots .result .verdict) (c .before .before .before .before .before .before .before .before .before .before .before .before .before .before .before .past-nots .ensures .0) (now (s .args .pool)) (s .args .b) (s .pre .1 .0)) (c .before .before .before .before .before .before .before .before .before .before .before .before .before .before .entry-at .result) (c .before .before .before .before .before .before .before .before .before .before .before .before .before .before .entry-at .ensures) (c .before .before .before .before .before .before .before .before .before .before .before .if1 .left) (c .before .before .before .before .before .before .before .before .before .if4 .taken) (c .before .before .before .before .before .before .before .before .run-of .result .start) (c .before .before .before .before .before .before .before .before .run-of .result .rows) (c .before .before .before .before .before .before .before .before .run-of .ensures .place)) (c .before .before .before .before .before .before .before .before .before .before .before .before .before .before .entry-at .result) (c .before .before .before .before .before .before .before .before .before .before .before .before .before .before .entry-at .ensures) (c .before .before .before .before .before .before .before .before .before .before .before .before .before .before .before .past-nots .result .verdict) (explained.under-verdict (now (s .args .rule)) (s .args .entry) (s .args .verdict) (c .before .before .before .before .before .before .before .before .before .before .before .before .before .before .before .past-nots .result .entry) (c .before .before .before .before .before .before .before .before .before .before .before .before .before .before .before .past-nots .result .verdict) (c .before .before .before .before .before .before .before .before .before .before .before .before .before .before .before .past-nots .ensures .0) (now (s .args .pool)) (s .args .b) (s .pre .1 .1 .0)) (steps.run-whole (now (s .args .rule)) (now (s .args .pool)) (s .args .b) (c .before .before .before .before .before .before .before .before .before .before .before .before .before .before .before .past-nots .result .entry) (explained.under-ready (now (s .args .rule)) (s .args .entry) (s .args .verdict) (c .before .before .before .before .before .before .before .before .before .before .before .before .before .before .before .past-nots .result .entry) (c .before .before .before .before .before .before .before .before .before .before .before .before .before .before .before .past-nots .result .verdict) (c .before .before .before .before .before .before .before .before .before .before .before .before .before .before .before .past-nots .ensures .0) (now (s .args .pool)) (s .args .b) (s .pre .1 .0)) (c .before .before .before .before .before .before .before .before .before .before .before .before .before .before .entry-at .result) (c .before .before .before .before .before .before .before .before .before .before .before .before .before .before .entry-at .ensures) (c .before .before .before .before .before .before .before .before .before .before .before .if1 .left) (c .before .before .before .before .before .before .before .before .before .if4 .taken) (c .before .before .before .before .before .before .before .before .run-of .result .start) (c .before .before .before .before .before .before .before .before .run-of .result .rows) (c .before .before .before .before .before .before .before .before .run-of .ensures)) (c .before .before .before .before .before .before .if5 .left) (c .before .before .before .before .before .first-deciding .result) (c .before .before .before .before .before .first-deciding .ensures) _ (c .before .before .before .before .bind2 .ensures) (now (s .args .out)) _ (c .before .before .explain6 .ensures))
+    let s = c .before .before .before .before .before .before .before .before .before .before .before .before .before .before
+    .before .before .before .before .before .before .before in
+    let past-nots = c .before .before .before .before .before .before .before .before .before .before .before .before .before .before
+    .before .past-nots in
+    let entry-at = c .before .before .before .before .before .before .before .before .before .before .before .before .before .before .entry-at in
+    let if1 = c .before .before .before .before .before .before .before .before .before .before .before .if1 in
+    let if4 = c .before .before .before .before .before .before .before .before .before .if4 in
+    let run-of = c .before .before .before .before .before .before .before .before .run-of in
+    let if5 = c .before .before .before .before .before .before .if5 in
+    let first-deciding = c .before .before .before .before .before .first-deciding in
+    let bind2 = c .before .before .before .before .bind2 in
+    let explain6 = c .before .before .explain6 in
+    let u = explained.under-ready _ _ _ _ _ (past-nots .ensures .0) (now (s .args .pool)) (s .args .b) (s .pre .1 .0) in
+    let v = explained.under-verdict _ _ _ _ _ (past-nots .ensures .0) (now (s .args .pool)) (s .args .b) (s .pre .1 .1 .0 .0) in
+    let o = steps.rows-ready _ _ _ _ u _ (entry-at .ensures) (if1 .left) (if4 .taken) (run-of .result .start) (run-of .result .rows)
+    (run-of .ensures .place) in
+    let w = steps.run-whole _ _ _ _ u _ (entry-at .ensures) (if1 .left) (if4 .taken) (run-of .result .start) (run-of .result .rows)
+    (run-of .ensures) in (
+      explained.under-marked _ _ _ _ _ (past-nots .ensures .0) (now (s .args .pool)) (s .args .b) (now (s .args .out)) _
+          (explained.first-marked _ _ _ _ _ _ o _ (entry-at .ensures) _ v w (if5 .left) (first-deciding .result) (first-deciding .ensures) _
+          (bind2 .ensures) (now (s .args .out)) _ (explain6 .ensures .0)),
+      explain6 .ensures .1,
+    )
 
 explain-mark-compared-requires : (t : ℕ) → explain-lts.Need-mark-compared-requires (explain-claims t) (explain-at t) explain.Post
 explain-mark-compared-requires t c κs =
-    let s = c .before .before .before .before .before .before .before .before .before .before .before in ((steps.left-limit (now (s .args .rule)) (now (s .args .pool)) (s .args .b) (c .before .before .before .before .before .before .before .past-nots .result .entry) (explained.under-ready (now (s .args .rule)) (s .args .entry) (s .args .verdict) (c .before .before .before .before .before .before .before .past-nots .result .entry) (c .before .before .before .before .before .before .before .past-nots .result .verdict) (c .before .before .before .before .before .before .before .past-nots .ensures .0) (now (s .args .pool)) (s .args .b) (s .pre .1 .0)) (c .before .before .before .before .before .before .entry-at .result) (c .before .before .before .before .before .before .entry-at .ensures) (c .before .if4 .left), steps.right-limit (now (s .args .rule)) (now (s .args .pool)) (s .args .b) (c .before .before .before .before .before .before .before .past-nots .result .entry) (explained.under-ready (now (s .args .rule)) (s .args .entry) (s .args .verdict) (c .before .before .before .before .before .before .before .past-nots .result .entry) (c .before .before .before .before .before .before .before .past-nots .result .verdict) (c .before .before .before .before .before .before .before .past-nots .ensures .0) (now (s .args .pool)) (s .args .b) (s .pre .1 .0)) (c .before .before .before .before .before .before .entry-at .result) (c .before .before .before .before .before .before .entry-at .ensures) (c .before .if4 .left)), (λ v. omega (arith, s .pre .1 .1 .1, s .pre .1 .0 .placed .kept v)))
+    let s = c .before .before .before .before .before .before .before .before .before .before .before .before .before in
+    let past-nots = c .before .before .before .before .before .before .before .past-nots in
+    let entry-at = c .before .before .before .before .before .before .entry-at in
+    let if4 = c .before .if4 in
+    let u = explained.under-ready _ _ _ _ _ (past-nots .ensures .0) (now (s .args .pool)) (s .args .b) (s .pre .1 .0) in (
+      (steps.left-limit _ _ _ _ u _ (entry-at .ensures) (if4 .left), steps.right-limit _ _ _ _ u _ (entry-at .ensures) (if4 .left)),
+      (λ v.
+          omega (arith, s .pre .1 .1 .0 .1, s .pre .1 .0 .placed .kept v)),
+    )
 
 explain-same-length-8 : (t : ℕ) → explain-lts.Need-same-length-8 (explain-claims t) (explain-at t) explain.Post
 explain-same-length-8 t c =
-    let s = c .before .before .before .before .before .before .before .before .before .before .before .before .before .before in c .before .before .mark-compared .kept .1 .1 .0
+    let mark-compared = c .before .before .mark-compared in
+    mark-compared .kept .1 .1 .0
 
 explain-returns-8 : (t : ℕ) → explain-lts.Need-returns-8 (explain-claims t) (explain-at t) explain.Post
 explain-returns-8 t c =
-    let s = c .before .before .before .before .before .before .before .before .before .before .before .before .before .before in explained.under-marked (now (s .args .rule)) (s .args .entry) (s .args .verdict) (c .before .before .before .before .before .before .before .before .before .before .past-nots .result .entry) (c .before .before .before .before .before .before .before .before .before .before .past-nots .result .verdict) (c .before .before .before .before .before .before .before .before .before .before .past-nots .ensures .0) (now (s .args .pool)) (s .args .b) (now (s .args .out)) _ (explained.compared-marked (now (s .args .rule)) (now (s .args .pool)) (s .args .b) (c .before .before .before .before .before .before .before .before .before .before .past-nots .result .entry) (explained.under-ready (now (s .args .rule)) (s .args .entry) (s .args .verdict) (c .before .before .before .before .before .before .before .before .before .before .past-nots .result .entry) (c .before .before .before .before .before .before .before .before .before .before .past-nots .result .verdict) (c .before .before .before .before .before .before .before .before .before .before .past-nots .ensures .0) (now (s .args .pool)) (s .args .b) (s .pre .1 .0)) (c .before .before .before .before .before .before .before .before .before .entry-at .result) (c .before .before .before .before .before .before .before .before .before .entry-at .ensures) (c .before .before .before .before .before .before .before .before .before .before .past-nots .result .verdict) (explained.under-verdict (now (s .args .rule)) (s .args .entry) (s .args .verdict) (c .before .before .before .before .before .before .before .before .before .before .past-nots .result .entry) (c .before .before .before .before .before .before .before .before .before .before .past-nots .result .verdict) (c .before .before .before .before .before .before .before .before .before .before .past-nots .ensures .0) (now (s .args .pool)) (s .args .b) (s .pre .1 .1 .0)) (c .before .before .before .before .if4 .left) (now (s .args .out)) _ (c .before .before .mark-compared .ensures))
+    let s = c .before .before .before .before .before .before .before .before .before .before .before .before .before .before .before .before in
+    let past-nots = c .before .before .before .before .before .before .before .before .before .before .past-nots in
+    let entry-at = c .before .before .before .before .before .before .before .before .before .entry-at in
+    let if4 = c .before .before .before .before .if4 in
+    let mark-compared = c .before .before .mark-compared in
+    let u = explained.under-ready _ _ _ _ _ (past-nots .ensures .0) (now (s .args .pool)) (s .args .b) (s .pre .1 .0) in
+    let v = explained.under-verdict _ _ _ _ _ (past-nots .ensures .0) (now (s .args .pool)) (s .args .b) (s .pre .1 .1 .0 .0) in
+    let m = explained.under-marked _ _ _ _ _ (past-nots .ensures .0) (now (s .args .pool)) (s .args .b) (now (s .args .out)) _
+    (explained.compared-marked _ _ _ _ u _ (entry-at .ensures) _ v (if4 .left) (now (s .args .out)) _ (mark-compared .ensures)) in
+    (m, whole-stays (now (s .args .pool)) (s .args .whole) (now (s .args .out)) (s .pre .1 .1 .1 .1) _ _ m)
 
 abbrev explain-rows-claims : ℕ → explain-rows-lts.Claims
-explain-rows-claims t = (entry-at-reads.Asked, entry-at-reads.Learnt, next-ranged-reads.Asked, next-ranged-reads.Learnt, explain-rows-below t, explain-rows.Post, bind-reads.Asked, bind-reads.Learnt, explain-below t, explain.Post)
+explain-rows-claims t = (
+  entry-at-reads.Asked,
+  entry-at-reads.Learnt,
+  next-ranged-reads.Asked,
+  next-ranged-reads.Learnt,
+  bind-reads.Asked,
+  bind-reads.Learnt,
+  explain-below t,
+  explain.Post,
+  explain-rows-below t,
+  explain-rows.Post,
+)
 
 explain-rows-entry-at-requires : (t : ℕ) → explain-rows-lts.Need-entry-at-requires (explain-rows-claims t) (explain-rows-at t) explain-rows.Post
 explain-rows-entry-at-requires t c κs =
-    let s = c .before .before .before in s .pre .1 .0 .ready .inside
+    let s = c .before .before .before .before .before in s .pre .1 .0 .ready .inside
 
 explain-rows-next-ranged-requires : (t : ℕ) → explain-rows-lts.Need-next-ranged-requires (explain-rows-claims t) (explain-rows-at t) explain-rows.Post
 explain-rows-next-ranged-requires t c κs =
-    let s = c .before .before .before .before in (s .pre .1 .0 .ready .placed, (steps.over-limit (now (s .args .rule)) (now (s .args .pool)) (s .args .b) (s .args .entry) (s .args .row) (s .args .rows) (s .pre .1 .0) (c .entry-at .result) (c .entry-at .ensures), s .pre .1 .0 .place))
+    let s = c .before .before .before .before .before .before in
+    let entry-at = c .entry-at in
+    (s .pre .1 .0 .ready .placed, (steps.over-limit _ _ _ _ _ _ (s .pre .1 .0) _ (entry-at .ensures), s .pre .1 .0 .place))
 
-explain-rows-add-left : (t : ℕ) → explain-rows-lts.Need-add-left (explain-rows-claims t) (explain-rows-at t) explain-rows.Post
-explain-rows-add-left t c =
-    let s = c .before .before .before .before .before in omega (arith, s .pre .1 .0 .place)
-
-explain-rows-sub-left : (t : ℕ) → explain-rows-lts.Need-sub-left (explain-rows-claims t) (explain-rows-at t) explain-rows.Post
-explain-rows-sub-left t c =
-    let s = c .before .before .before .before .before in omega (arith, steps.next-place (now (s .args .rule)) (now (s .args .pool)) (s .args .b) (s .args .entry) (s .args .row) (s .args .rows) (s .pre .1 .0) (c .before .entry-at .result) (c .before .entry-at .ensures) (c .next-ranged .result) (c .next-ranged .ensures) .0, steps.next-place (now (s .args .rule)) (now (s .args .pool)) (s .args .b) (s .args .entry) (s .args .row) (s .args .rows) (s .pre .1 .0) (c .before .entry-at .result) (c .before .entry-at .ensures) (c .next-ranged .result) (c .next-ranged .ensures) .1, s .pre .1 .0 .place)
+explain-rows-add-end : (t : ℕ) → explain-rows-lts.Need-add-end (explain-rows-claims t) (explain-rows-at t) explain-rows.Post
+explain-rows-add-end t c =
+    let s = c .before .before .before .before .before .before .before in
+    omega (arith, s .pre .1 .0 .place)
 
 explain-rows-returns : (t : ℕ) → explain-rows-lts.Need-returns (explain-rows-claims t) (explain-rows-at t) explain-rows.Post
 explain-rows-returns t c =
-    let s = c .before .before .before .before .before .before in explained.no-row-marked (now (s .args .rule)) (now (s .args .pool)) (s .args .b) (s .args .entry) (s .args .row) (s .args .rows) (s .pre .1 .0) (c .before .before .entry-at .result) (c .before .before .entry-at .ensures) (s .pre .1 .1 .0) (c .before .next-ranged .result) (c .before .next-ranged .ensures) (c .if1 .taken) (now (s .args .out))
-
-explain-rows-explain-rows-requires : (t : ℕ) → explain-rows-lts.Need-explain-rows-requires (explain-rows-claims t) (explain-rows-at t) explain-rows.Post
-explain-rows-explain-rows-requires t c κs =
-    let s = c .before .before .before .before .before .before .before .before in (below (s .pre .0) (falls-part (entryCount (now (s .args .rule))) (rowCount (now (s .args .pool))) (s .args .entry) 0 ((s .args .row + s .args .rows - c .before .before .before .next-ranged .result) / 2) (s .args .rows) (omega (arith, steps.next-place (now (s .args .rule)) (now (s .args .pool)) (s .args .b) (s .args .entry) (s .args .row) (s .args .rows) (s .pre .1 .0) (c .before .before .before .before .entry-at .result) (c .before .before .before .before .entry-at .ensures) (c .before .before .before .next-ranged .result) (c .before .before .before .next-ranged .ensures) .0, steps.next-place (now (s .args .rule)) (now (s .args .pool)) (s .args .b) (s .args .entry) (s .args .row) (s .args .rows) (s .pre .1 .0) (c .before .before .before .before .entry-at .result) (c .before .before .before .before .entry-at .ensures) (c .before .before .before .next-ranged .result) (c .before .before .before .next-ranged .ensures) .1, s .pre .1 .0 .place, c .before .if2 .taken))), (steps.part-ready (now (s .args .rule)) (now (s .args .pool)) (s .args .b) (s .args .entry) (s .args .row) (s .args .rows) (s .pre .1 .0) (c .before .before .before .next-ranged .result) ((s .args .row + s .args .rows - c .before .before .before .next-ranged .result) / 2) (omega (arith, steps.next-place (now (s .args .rule)) (now (s .args .pool)) (s .args .b) (s .args .entry) (s .args .row) (s .args .rows) (s .pre .1 .0) (c .before .before .before .before .entry-at .result) (c .before .before .before .before .entry-at .ensures) (c .before .before .before .next-ranged .result) (c .before .before .before .next-ranged .ensures) .0, steps.next-place (now (s .args .rule)) (now (s .args .pool)) (s .args .b) (s .args .entry) (s .args .row) (s .args .rows) (s .pre .1 .0) (c .before .before .before .before .entry-at .result) (c .before .before .before .before .entry-at .ensures) (c .before .before .before .next-ranged .result) (c .before .before .before .next-ranged .ensures) .1, s .pre .1 .0 .place)), (explained.first-half-settled (now (s .args .rule)) (now (s .args .pool)) (s .args .b) (s .args .entry) (s .args .row) (s .args .rows) (s .pre .1 .0) (c .before .before .before .before .entry-at .result) (c .before .before .before .before .entry-at .ensures) (s .pre .1 .1 .0) (c .before .before .before .next-ranged .result) (c .before .before .before .next-ranged .ensures) ((s .args .row + s .args .rows - c .before .before .before .next-ranged .result) / 2) (omega arith), s .pre .1 .1 .1)))
-
-explain-rows-add-explain-rows : (t : ℕ) → explain-rows-lts.Need-add-explain-rows (explain-rows-claims t) (explain-rows-at t) explain-rows.Post
-explain-rows-add-explain-rows t c =
-    let s = c .before .before .before .before .before .before .before .before .before .before .before in omega (arith, steps.next-place (now (s .args .rule)) (now (s .args .pool)) (s .args .b) (s .args .entry) (s .args .row) (s .args .rows) (s .pre .1 .0) (c .before .before .before .before .before .before .before .entry-at .result) (c .before .before .before .before .before .before .before .entry-at .ensures) (c .before .before .before .before .before .before .next-ranged .result) (c .before .before .before .before .before .before .next-ranged .ensures) .0, steps.next-place (now (s .args .rule)) (now (s .args .pool)) (s .args .b) (s .args .entry) (s .args .row) (s .args .rows) (s .pre .1 .0) (c .before .before .before .before .before .before .before .entry-at .result) (c .before .before .before .before .before .before .before .entry-at .ensures) (c .before .before .before .before .before .before .next-ranged .result) (c .before .before .before .before .before .before .next-ranged .ensures) .1, s .pre .1 .0 .place)
-
-explain-rows-sub-explain-rows : (t : ℕ) → explain-rows-lts.Need-sub-explain-rows (explain-rows-claims t) (explain-rows-at t) explain-rows.Post
-explain-rows-sub-explain-rows t c =
-    let s = c .before .before .before .before .before .before .before .before .before .before .before in omega (arith, steps.next-place (now (s .args .rule)) (now (s .args .pool)) (s .args .b) (s .args .entry) (s .args .row) (s .args .rows) (s .pre .1 .0) (c .before .before .before .before .before .before .before .entry-at .result) (c .before .before .before .before .before .before .before .entry-at .ensures) (c .before .before .before .before .before .before .next-ranged .result) (c .before .before .before .before .before .before .next-ranged .ensures) .0, steps.next-place (now (s .args .rule)) (now (s .args .pool)) (s .args .b) (s .args .entry) (s .args .row) (s .args .rows) (s .pre .1 .0) (c .before .before .before .before .before .before .before .entry-at .result) (c .before .before .before .before .before .before .before .entry-at .ensures) (c .before .before .before .before .before .before .next-ranged .result) (c .before .before .before .before .before .before .next-ranged .ensures) .1, s .pre .1 .0 .place)
-
-explain-rows-explain-rows-requires-2 : (t : ℕ) → explain-rows-lts.Need-explain-rows-requires-2 (explain-rows-claims t) (explain-rows-at t) explain-rows.Post
-explain-rows-explain-rows-requires-2 t c κs =
-    let s = c .before .before .before .before .before .before .before .before .before .before .before .before in (below (s .pre .0) (falls-part (entryCount (now (s .args .rule))) (rowCount (now (s .args .pool))) (s .args .entry) 0 ((s .args .row + s .args .rows - c .before .before .before .before .before .before .before .next-ranged .result) - ((s .args .row + s .args .rows - c .before .before .before .before .before .before .before .next-ranged .result) / 2)) (s .args .rows) (omega (arith, steps.next-place (now (s .args .rule)) (now (s .args .pool)) (s .args .b) (s .args .entry) (s .args .row) (s .args .rows) (s .pre .1 .0) (c .before .before .before .before .before .before .before .before .entry-at .result) (c .before .before .before .before .before .before .before .before .entry-at .ensures) (c .before .before .before .before .before .before .before .next-ranged .result) (c .before .before .before .before .before .before .before .next-ranged .ensures) .0, steps.next-place (now (s .args .rule)) (now (s .args .pool)) (s .args .b) (s .args .entry) (s .args .row) (s .args .rows) (s .pre .1 .0) (c .before .before .before .before .before .before .before .before .entry-at .result) (c .before .before .before .before .before .before .before .before .entry-at .ensures) (c .before .before .before .before .before .before .before .next-ranged .result) (c .before .before .before .before .before .before .before .next-ranged .ensures) .1, s .pre .1 .0 .place, c .before .before .before .before .before .if2 .taken))), (steps.part-ready (now (s .args .rule)) (now (s .args .pool)) (s .args .b) (s .args .entry) (s .args .row) (s .args .rows) (s .pre .1 .0) (c .before .before .before .before .before .before .before .next-ranged .result + ((s .args .row + s .args .rows - c .before .before .before .before .before .before .before .next-ranged .result) / 2)) ((s .args .row + s .args .rows - c .before .before .before .before .before .before .before .next-ranged .result) - ((s .args .row + s .args .rows - c .before .before .before .before .before .before .before .next-ranged .result) / 2)) (omega (arith, steps.next-place (now (s .args .rule)) (now (s .args .pool)) (s .args .b) (s .args .entry) (s .args .row) (s .args .rows) (s .pre .1 .0) (c .before .before .before .before .before .before .before .before .entry-at .result) (c .before .before .before .before .before .before .before .before .entry-at .ensures) (c .before .before .before .before .before .before .before .next-ranged .result) (c .before .before .before .before .before .before .before .next-ranged .ensures) .0, steps.next-place (now (s .args .rule)) (now (s .args .pool)) (s .args .b) (s .args .entry) (s .args .row) (s .args .rows) (s .pre .1 .0) (c .before .before .before .before .before .before .before .before .entry-at .result) (c .before .before .before .before .before .before .before .before .entry-at .ensures) (c .before .before .before .before .before .before .before .next-ranged .result) (c .before .before .before .before .before .before .before .next-ranged .ensures) .1, s .pre .1 .0 .place)), (explained.second-half-settled (now (s .args .rule)) (now (s .args .pool)) (s .args .b) (s .args .entry) (s .args .row) (s .args .rows) (s .pre .1 .0) (c .before .before .before .before .before .before .before .before .entry-at .result) (c .before .before .before .before .before .before .before .before .entry-at .ensures) (s .pre .1 .1 .0) (c .before .before .before .before .before .before .before .next-ranged .result) (c .before .before .before .before .before .before .before .next-ranged .ensures) ((s .args .row + s .args .rows - c .before .before .before .before .before .before .before .next-ranged .result) / 2) (omega arith), omega (arith, s .pre .1 .1 .1, c .before .before .before .explain-rows .kept .1 .1 .1 .1 .1 .1 .0))))
-
-explain-rows-same-length : (t : ℕ) → explain-rows-lts.Need-same-length (explain-rows-claims t) (explain-rows-at t) explain-rows.Post
-explain-rows-same-length t c =
-    let s = c .before .before .before .before .before .before .before .before .before .before .before .before .before .before .before in c .before .before .explain-rows2 .kept .1 .1 .1 .1 .1 .1 .0 ∙ c .before .before .before .before .before .before .explain-rows .kept .1 .1 .1 .1 .1 .1 .0
-
-explain-rows-returns-2 : (t : ℕ) → explain-rows-lts.Need-returns-2 (explain-rows-claims t) (explain-rows-at t) explain-rows.Post
-explain-rows-returns-2 t c =
-    let s = c .before .before .before .before .before .before .before .before .before .before .before .before .before .before .before in explained.halves-marked (now (s .args .rule)) (now (s .args .pool)) (s .args .b) (s .args .entry) (s .args .row) (s .args .rows) (s .pre .1 .0) (c .before .before .before .before .before .before .before .before .before .before .before .entry-at .result) (c .before .before .before .before .before .before .before .before .before .before .before .entry-at .ensures) (s .pre .1 .1 .0) (c .before .before .before .before .before .before .before .before .before .before .next-ranged .result) (c .before .before .before .before .before .before .before .before .before .before .next-ranged .ensures) ((s .args .row + s .args .rows - c .before .before .before .before .before .before .before .before .before .before .next-ranged .result) / 2) (omega arith) (now (s .args .out)) _ _ (c .before .before .before .before .before .before .explain-rows .ensures) (c .before .before .explain-rows2 .ensures)
+    let s = c .before .before .before .before .before .before .before .before in
+    let entry-at = c .before .before .entry-at in
+    let next-ranged = c .before .next-ranged in
+    let if1 = c .if1 in (
+      explained.no-row-marked _ _ _ _ _ _ (s .pre .1 .0) _ (entry-at .ensures) (s .pre .1 .1 .0 .0) (next-ranged .result)
+          (next-ranged .ensures) (if1 .taken) (now (s .args .out)),
+      s .pre .1 .1 .1 .1,
+    )
 
 explain-rows-slice-write-out : (t : ℕ) → explain-rows-lts.Need-slice-write-out (explain-rows-claims t) (explain-rows-at t) explain-rows.Post
 explain-rows-slice-write-out t c =
-    let s = c .before .before .before .before .before .before .before in omega (arith, steps.next-place (now (s .args .rule)) (now (s .args .pool)) (s .args .b) (s .args .entry) (s .args .row) (s .args .rows) (s .pre .1 .0) (c .before .before .before .entry-at .result) (c .before .before .before .entry-at .ensures) (c .before .before .next-ranged .result) (c .before .before .next-ranged .ensures) .0, steps.next-place (now (s .args .rule)) (now (s .args .pool)) (s .args .b) (s .args .entry) (s .args .row) (s .args .rows) (s .pre .1 .0) (c .before .before .before .entry-at .result) (c .before .before .before .entry-at .ensures) (c .before .before .next-ranged .result) (c .before .before .next-ranged .ensures) .1, s .pre .1 .0 .place, s .pre .1 .1 .1, c .before .if1 .left)
+    let s = c .before .before .before .before .before .before .before .before in
+    let entry-at = c .before .before .entry-at in
+    let next-ranged = c .before .next-ranged in
+    let if1 = c .if1 in
+    let p = steps.next-place _ _ _ _ _ _ (s .pre .1 .0) _ (entry-at .ensures) (next-ranged .result) (next-ranged .ensures) in
+    omega (arith, p .0, p .1, s .pre .1 .0 .place, s .pre .1 .1 .0 .1, if1 .left)
 
 explain-rows-add-bind : (t : ℕ) → explain-rows-lts.Need-add-bind (explain-rows-claims t) (explain-rows-at t) explain-rows.Post
 explain-rows-add-bind t c =
-    let s = c .before .before .before .before .before .before .before in omega (arith, steps.next-place (now (s .args .rule)) (now (s .args .pool)) (s .args .b) (s .args .entry) (s .args .row) (s .args .rows) (s .pre .1 .0) (c .before .before .before .entry-at .result) (c .before .before .before .entry-at .ensures) (c .before .before .next-ranged .result) (c .before .before .next-ranged .ensures) .0, steps.next-place (now (s .args .rule)) (now (s .args .pool)) (s .args .b) (s .args .entry) (s .args .row) (s .args .rows) (s .pre .1 .0) (c .before .before .before .entry-at .result) (c .before .before .before .entry-at .ensures) (c .before .before .next-ranged .result) (c .before .before .next-ranged .ensures) .1, s .pre .1 .0 .place, c .before .if1 .left)
+    let s = c .before .before .before .before .before .before .before .before in
+    let entry-at = c .before .before .entry-at in
+    let next-ranged = c .before .next-ranged in
+    let if1 = c .if1 in
+    let p = steps.next-place _ _ _ _ _ _ (s .pre .1 .0) _ (entry-at .ensures) (next-ranged .result) (next-ranged .ensures) in
+    omega (arith, p .0, p .1, s .pre .1 .0 .place, if1 .left)
 
 explain-rows-bind-requires : (t : ℕ) → explain-rows-lts.Need-bind-requires (explain-rows-claims t) (explain-rows-at t) explain-rows.Post
 explain-rows-bind-requires t c κs =
@@ -283,18 +782,232 @@ explain-rows-cast-explain t c =
 
 explain-rows-explain-requires : (t : ℕ) → explain-rows-lts.Need-explain-requires (explain-rows-claims t) (explain-rows-at t) explain-rows.Post
 explain-rows-explain-requires t c κs =
-    let s = c .before .before .before .before .before .before .before .before .before .before .before in let l = steps.body-later (now (s .args .rule)) (now (s .args .pool)) (s .args .b) (s .args .entry) (s .args .row) (s .args .rows) (s .pre .1 .0) (c .before .before .before .before .before .before .before .entry-at .result) (c .before .before .before .before .before .before .before .entry-at .ensures) in (below (s .pre .0) (falls-body (entryCount (now (s .args .rule))) (rowCount (now (s .args .pool))) (s .args .entry) _ (s .args .rows) (l .0) (l .1)), (steps.bound-ready (now (s .args .rule)) (now (s .args .pool)) (s .args .b) (s .args .entry) (s .args .row) (s .args .rows) (s .pre .1 .0) (c .before .before .before .before .before .before .before .entry-at .result) (c .before .before .before .before .before .before .before .entry-at .ensures) (c .before .before .before .before .before .before .next-ranged .result + 1) (omega (arith, steps.next-place (now (s .args .rule)) (now (s .args .pool)) (s .args .b) (s .args .entry) (s .args .row) (s .args .rows) (s .pre .1 .0) (c .before .before .before .before .before .before .before .entry-at .result) (c .before .before .before .before .before .before .before .entry-at .ensures) (c .before .before .before .before .before .before .next-ranged .result) (c .before .before .before .before .before .before .next-ranged .ensures) .0, steps.next-place (now (s .args .rule)) (now (s .args .pool)) (s .args .b) (s .args .entry) (s .args .row) (s .args .rows) (s .pre .1 .0) (c .before .before .before .before .before .before .before .entry-at .result) (c .before .before .before .before .before .before .before .entry-at .ensures) (c .before .before .before .before .before .before .next-ranged .result) (c .before .before .before .before .before .before .next-ranged .ensures) .1, s .pre .1 .0 .place, c .before .before .before .before .before .if1 .left)) _ (c .before .before .before .bind .ensures), (explained.one-verdict (now (s .args .rule)) (now (s .args .pool)) (s .args .b) (s .args .entry) (s .args .row) (s .args .rows) (s .pre .1 .0) (c .before .before .before .before .before .before .before .entry-at .result) (c .before .before .before .before .before .before .before .entry-at .ensures) (s .pre .1 .1 .0) (c .before .before .before .before .before .before .next-ranged .result) (c .before .before .before .before .before .before .next-ranged .ensures) (omega (arith, c .before .before .before .before .before .if1 .left, c .before .before .before .before .if2 .left)) _ (c .before .before .before .bind .ensures), simp length-set (s .pre .1 .1 .1))))
+    let s = c .before .before .before .before .before .before .before .before .before .before .before .before in
+    let entry-at = c .before .before .before .before .before .before .entry-at in
+    let next-ranged = c .before .before .before .before .before .next-ranged in
+    let if1 = c .before .before .before .before .if1 in
+    let bind = c .before .before .before .bind in
+    let p = steps.next-place _ _ _ _ _ _ (s .pre .1 .0) _ (entry-at .ensures) (next-ranged .result) (next-ranged .ensures) in
+    let l = steps.body-later _ _ _ _ _ _ (s .pre .1 .0) _ (entry-at .ensures) in (
+      below (s .pre .0) (falls-body (entryCount (now (s .args .rule))) (rowCount (now (s .args .pool))) (s .args .entry) _ (s .args .rows)
+          (l .0) (l .1)),
+      (
+        steps.bound-ready _ _ _ _ _ _ (s .pre .1 .0) _ (entry-at .ensures) (next-ranged .result + 1) (omega (
+          arith,
+          p .0,
+          p .1,
+          s .pre .1 .0 .place,
+          if1 .left,
+        )) _ (bind .ensures),
+        (
+          (
+            explained.first-verdict _ _ _ _ _ _ (s .pre .1 .0) _ (entry-at .ensures)
+                (s .pre .1 .1 .0 .0) (next-ranged .result) (next-ranged .ensures) (if1 .left) _ (bind .ensures),
+            simp length-set
+                (s .pre .1 .1 .0 .1),
+          ),
+          (
+            s .pre .1 .1 .1 .0,
+            whole-with-row (now (s .args .pool)) (s .args .whole) (now (s .args .out))
+                (s .pre .1 .1 .1 .1) (s .pre .1 .0 .ready .pool-accepted) (next-ranged .result) (omega (
+                  arith,
+                  p .0,
+                  p .1,
+                  s .pre .1 .0 .place,
+                  if1 .left,
+                )),
+          ),
+        ),
+      ),
+    )
+
+explain-rows-sub-left : (t : ℕ) → explain-rows-lts.Need-sub-left (explain-rows-claims t) (explain-rows-at t) explain-rows.Post
+explain-rows-sub-left t c =
+    let s = c .before .before .before .before .before .before .before .before .before .before .before .before .before .before .before in
+    let entry-at = c .before .before .before .before .before .before .before .before .before .entry-at in
+    let next-ranged = c .before .before .before .before .before .before .before .before .next-ranged in
+    let p = steps.next-place _ _ _ _ _ _ (s .pre .1 .0) _ (entry-at .ensures) (next-ranged .result) (next-ranged .ensures) in
+    omega (arith, p .0, p .1, s .pre .1 .0 .place)
+
+explain-rows-sub-left-2 : (t : ℕ) → explain-rows-lts.Need-sub-left-2 (explain-rows-claims t) (explain-rows-at t) explain-rows.Post
+explain-rows-sub-left-2 t c =
+    let s = c .before .before .before .before .before .before .before .before .before .before .before .before .before .before .before in
+    let entry-at = c .before .before .before .before .before .before .before .before .before .entry-at in
+    let next-ranged = c .before .before .before .before .before .before .before .before .next-ranged in
+    let if1 = c .before .before .before .before .before .before .before .if1 in
+    let p = steps.next-place _ _ _ _ _ _ (s .pre .1 .0) _ (entry-at .ensures) (next-ranged .result) (next-ranged .ensures) in
+    omega (arith, p .0, p .1, s .pre .1 .0 .place, if1 .left)
+
+explain-rows-same-length : (t : ℕ) → explain-rows-lts.Need-same-length (explain-rows-claims t) (explain-rows-at t) explain-rows.Post
+explain-rows-same-length t c =
+    let s = c .before .before .before .before .before .before .before .before .before .before .before .before .before .before .before .before in
+    let explain = c .before .before .before .explain in
+    let next-ranged = c .before .before .before .before .before .before .before .before .before .next-ranged in
+    explain .kept .1 .1 .1 .1 .1 .1 .1 .1 .0 ∙ length-set (now (s .args .out)) (next-ranged .result) 1
+
+explain-rows-returns-2 : (t : ℕ) → explain-rows-lts.Need-returns-2 (explain-rows-claims t) (explain-rows-at t) explain-rows.Post
+explain-rows-returns-2 t c =
+    let s = c .before .before .before .before .before .before .before .before .before .before .before .before .before .before .before .before in
+    let entry-at = c .before .before .before .before .before .before .before .before .before .before .entry-at in
+    let next-ranged = c .before .before .before .before .before .before .before .before .before .next-ranged in
+    let if1 = c .before .before .before .before .before .before .before .before .if1 in
+    let bind = c .before .before .before .before .before .before .before .bind in
+    let if2 = c .if2 in
+    let explain = c .before .before .before .explain in (
+      explained.last-marked _ _ _ _ _ _ (s .pre .1 .0) _ (entry-at .ensures) (s .pre .1 .1 .0 .0) (next-ranged .result)
+          (next-ranged .ensures) (if1 .left) _ (bind .ensures) (if2 .taken) (now (s .args .out)) _ (explain .ensures .0),
+      explain .ensures .1,
+    )
+
+explain-rows-add-explain-rows : (t : ℕ) → explain-rows-lts.Need-add-explain-rows (explain-rows-claims t) (explain-rows-at t) explain-rows.Post
+explain-rows-add-explain-rows t c =
+    let s = c .before .before .before .before .before .before .before .before .before .before .before .before .before .before .before .before in
+    let entry-at = c .before .before .before .before .before .before .before .before .before .before .entry-at in
+    let next-ranged = c .before .before .before .before .before .before .before .before .before .next-ranged in
+    let if1 = c .before .before .before .before .before .before .before .before .if1 in
+    let p = steps.next-place _ _ _ _ _ _ (s .pre .1 .0) _ (entry-at .ensures) (next-ranged .result) (next-ranged .ensures) in
+    omega (arith, p .0, p .1, s .pre .1 .0 .place, if1 .left)
+
+explain-rows-explain-rows-requires : (t : ℕ) → explain-rows-lts.Need-explain-rows-requires (explain-rows-claims t) (explain-rows-at t) explain-rows.Post
+explain-rows-explain-rows-requires t c κs =
+    let s = c .before .before .before .before .before .before .before .before .before .before .before .before .before .before
+    .before .before .before in
+    let entry-at = c .before .before .before .before .before .before .before .before .before .before .before .entry-at in
+    let next-ranged = c .before .before .before .before .before .before .before .before .before .before .next-ranged in
+    let if1 = c .before .before .before .before .before .before .before .before .before .if1 in
+    let explain = c .before .before .before .before .explain in
+    let p = steps.next-place _ _ _ _ _ _ (s .pre .1 .0) _ (entry-at .ensures) (next-ranged .result) (next-ranged .ensures) in (
+      below (s .pre .0) (falls-part (entryCount (now (s .args .rule))) (rowCount (now (s .args .pool))) (s .args .entry) 0 ((s .args .row
+          + s .args .rows - next-ranged .result - 1) / 2) (s .args .rows) (omega (arith, p .0, p .1, s .pre .1 .0 .place, if1 .left))),
+      (
+        steps.part-ready _ _ _ _ _ _ (s .pre .1 .0) (next-ranged .result + 1) ((s .args .row + s .args .rows - next-ranged .result - 1) / 2)
+            (omega (arith, p .0, p .1, s .pre .1 .0 .place, if1 .left)),
+        (
+          (
+            explained.near-settled _ _ _ _ _ _ (s .pre .1 .0) _
+                (entry-at .ensures) (s .pre .1 .1 .0 .0) (next-ranged .result) (next-ranged .ensures) (if1 .left) ((s .args .row + s .args .rows -
+                next-ranged .result - 1) / 2) (omega arith),
+            omega (
+              arith,
+              s .pre .1 .1 .0 .1,
+              explain .kept .1 .1 .1 .1 .1 .1 .1 .1 .0,
+              length-set
+                  (now (s .args .out)) (next-ranged .result) 1,
+            ),
+          ),
+          (s .pre .1 .1 .1 .0, explain .ensures .1),
+        ),
+      ),
+    )
+
+explain-rows-add-explain-rows-2 : (t : ℕ) → explain-rows-lts.Need-add-explain-rows-2 (explain-rows-claims t) (explain-rows-at t) explain-rows.Post
+explain-rows-add-explain-rows-2 t c =
+    let s = c .before .before .before .before .before .before .before .before .before .before .before .before .before .before
+    .before .before .before .before .before .before in
+    let entry-at = c .before .before .before .before .before .before .before .before .before .before .before .before .before .before .entry-at in
+    let next-ranged = c .before .before .before .before .before .before .before .before .before .before .before .before .before .next-ranged in
+    let if1 = c .before .before .before .before .before .before .before .before .before .before .before .before .if1 in
+    let p = steps.next-place _ _ _ _ _ _ (s .pre .1 .0) _ (entry-at .ensures) (next-ranged .result) (next-ranged .ensures) in
+    omega (arith, p .0, p .1, s .pre .1 .0 .place, if1 .left)
+
+explain-rows-add-explain-rows-3 : (t : ℕ) → explain-rows-lts.Need-add-explain-rows-3 (explain-rows-claims t) (explain-rows-at t) explain-rows.Post
+explain-rows-add-explain-rows-3 t c =
+    let s = c .before .before .before .before .before .before .before .before .before .before .before .before .before .before
+    .before .before .before .before .before .before in
+    let entry-at = c .before .before .before .before .before .before .before .before .before .before .before .before .before .before .entry-at in
+    let next-ranged = c .before .before .before .before .before .before .before .before .before .before .before .before .before .next-ranged in
+    let if1 = c .before .before .before .before .before .before .before .before .before .before .before .before .if1 in
+    let p = steps.next-place _ _ _ _ _ _ (s .pre .1 .0) _ (entry-at .ensures) (next-ranged .result) (next-ranged .ensures) in
+    omega (arith, p .0, p .1, s .pre .1 .0 .place, if1 .left)
+
+explain-rows-sub-explain-rows : (t : ℕ) → explain-rows-lts.Need-sub-explain-rows (explain-rows-claims t) (explain-rows-at t) explain-rows.Post
+explain-rows-sub-explain-rows t c =
+    omega arith
+
+explain-rows-explain-rows-requires-2 : (t : ℕ) → explain-rows-lts.Need-explain-rows-requires-2 (explain-rows-claims t) (explain-rows-at t) explain-rows.Post
+explain-rows-explain-rows-requires-2 t c κs =
+    let s = c .before .before .before .before .before .before .before .before .before .before .before .before .before .before
+    .before .before .before .before .before .before .before in
+    let entry-at = c .before .before .before .before .before .before .before .before .before .before .before .before .before .before
+    .before .entry-at in
+    let next-ranged = c .before .before .before .before .before .before .before .before .before .before .before .before .before .before
+    .next-ranged in
+    let if1 = c .before .before .before .before .before .before .before .before .before .before .before .before .before .if1 in
+    let explain = c .before .before .before .before .before .before .before .before .explain in
+    let explain-rows = c .before .before .before .explain-rows in
+    let p = steps.next-place _ _ _ _ _ _ (s .pre .1 .0) _ (entry-at .ensures) (next-ranged .result) (next-ranged .ensures) in (
+      below (s .pre .0) (falls-part (entryCount (now (s .args .rule))) (rowCount (now (s .args .pool))) (s .args .entry) 0 ((s .args .row
+          + s .args .rows - next-ranged .result - 1) - ((s .args .row + s .args .rows - next-ranged .result - 1) / 2)) (s .args .rows) (omega
+          (arith, p .0, p .1, s .pre .1 .0 .place, if1 .left))),
+      (
+        steps.part-ready _ _ _ _ _ _ (s .pre .1 .0) (next-ranged .result + 1 +
+            ((s .args .row + s .args .rows - next-ranged .result - 1) / 2)) ((s .args .row + s .args .rows - next-ranged .result - 1) -
+            ((s .args .row + s .args .rows - next-ranged .result - 1) / 2)) (omega (arith, p .0, p .1, s .pre .1 .0 .place, if1 .left)),
+        (
+          (
+            explained.far-settled _ _ _ _ _ _ (s .pre .1 .0) _ (entry-at .ensures) (s .pre .1 .1 .0 .0) (next-ranged .result)
+                (next-ranged .ensures) (if1 .left) ((s .args .row + s .args .rows - next-ranged .result - 1) / 2) (omega arith),
+            omega (
+              arith,
+              s .pre .1 .1 .0 .1,
+              explain .kept .1 .1 .1 .1 .1 .1 .1 .1 .0,
+              length-set (now (s .args .out)) (next-ranged .result) 1,
+              explain-rows .kept .1 .1 .1 .1 .1 .1 .1 .1 .1 .0,
+            ),
+          ),
+          (s .pre .1 .1 .1 .0, explain-rows .ensures .1),
+        ),
+      ),
+    )
 
 explain-rows-same-length-2 : (t : ℕ) → explain-rows-lts.Need-same-length-2 (explain-rows-claims t) (explain-rows-at t) explain-rows.Post
 explain-rows-same-length-2 t c =
-    let s = c .before .before .before .before .before .before .before .before .before .before .before .before .before .before in c .before .before .explain .kept .1 .1 .1 .1 .1 .0 ∙ length-set (now (s .args .out)) (c .before .before .before .before .before .before .before .before .before .next-ranged .result) _
+    let s = c .before .before .before .before .before .before .before .before .before .before .before .before .before .before
+    .before .before .before .before .before .before .before .before .before .before in
+    let explain-rows2 = c .before .before .explain-rows2 in
+    let explain-rows = c .before .before .before .before .before .before .explain-rows in
+    let explain = c .before .before .before .before .before .before .before .before .before .before .before .explain in
+    let next-ranged = c .before .before .before .before .before .before .before .before .before .before .before .before .before .before
+    .before .before .before .next-ranged in
+    explain-rows2 .kept .1 .1 .1 .1 .1 .1 .1 .1 .1 .0 ∙ explain-rows .kept .1 .1 .1 .1 .1 .1 .1 .1 .1 .0 ∙
+    explain .kept .1 .1 .1 .1 .1 .1 .1 .1 .0 ∙ length-set (now (s .args .out)) (next-ranged .result) 1
 
 explain-rows-returns-3 : (t : ℕ) → explain-rows-lts.Need-returns-3 (explain-rows-claims t) (explain-rows-at t) explain-rows.Post
 explain-rows-returns-3 t c =
-    let s = c .before .before .before .before .before .before .before .before .before .before .before .before .before .before in explained.one-marked (now (s .args .rule)) (now (s .args .pool)) (s .args .b) (s .args .entry) (s .args .row) (s .args .rows) (s .pre .1 .0) (c .before .before .before .before .before .before .before .before .before .before .entry-at .result) (c .before .before .before .before .before .before .before .before .before .before .entry-at .ensures) (s .pre .1 .1 .0) (c .before .before .before .before .before .before .before .before .before .next-ranged .result) (c .before .before .before .before .before .before .before .before .before .next-ranged .ensures) (omega (arith, c .before .before .before .before .before .before .before .before .if1 .left, c .before .before .before .before .before .before .before .if2 .left)) _ (c .before .before .before .before .before .before .bind .ensures) (now (s .args .out)) _ (c .before .before .explain .ensures)
+    let s = c .before .before .before .before .before .before .before .before .before .before .before .before .before .before
+    .before .before .before .before .before .before .before .before .before .before in
+    let entry-at = c .before .before .before .before .before .before .before .before .before .before .before .before .before .before
+    .before .before .before .before .entry-at in
+    let next-ranged = c .before .before .before .before .before .before .before .before .before .before .before .before .before .before
+    .before .before .before .next-ranged in
+    let if1 = c .before .before .before .before .before .before .before .before .before .before .before .before .before .before
+    .before .before .if1 in
+    let bind = c .before .before .before .before .before .before .before .before .before .before .before .before .before .before .before .bind in
+    let explain = c .before .before .before .before .before .before .before .before .before .before .before .explain in
+    let explain-rows = c .before .before .before .before .before .before .explain-rows in
+    let explain-rows2 = c .before .before .explain-rows2 in (
+      explained.rows-marked _ _ _ _ _ _ (s .pre .1 .0) _ (entry-at .ensures) (s .pre .1 .1 .0 .0) (next-ranged .result)
+          (next-ranged .ensures) (if1 .left) ((s .args .row + s .args .rows - next-ranged .result - 1) / 2) (omega arith) _ (bind .ensures)
+          (now (s .args .out)) _ _ _ (explain .ensures .0) (explain-rows .ensures .0) (explain-rows2 .ensures .0),
+      explain-rows2 .ensures .1,
+    )
 
 pub +explain+explain-rows-spec : {M : Type 1} → statement M
 +explain+explain-rows-spec =
     close μ-explain μ-explain-rows
-    (λ t. explain-lts.spec (explain-claims t) (explain-at t) explain.Post (explain-past-nots-requires t) (explain-entry-at-requires t) (explain-cast-a t) (explain-cast-second t) (explain-side-requires t) (explain-explain-requires t) (explain-explain-requires-2 t) (explain-same-length t) (explain-returns t) (explain-holds-requires t) (explain-left-decides-requires t) (explain-explain-requires-3 t) (explain-same-length-2 t) (explain-returns-2 t) (explain-explain-requires-4 t) (explain-same-length-3 t) (explain-returns-3 t) (explain-run-of-requires t) (explain-settled-before-requires t) (explain-mark-ranged-requires t) (explain-bind-requires t) (explain-explain-requires-5 t) (explain-same-length-4 t) (explain-returns-4 t) (explain-same-length-5 t) (explain-returns-5 t) (explain-explain-rows-requires t) (explain-same-length-6 t) (explain-returns-6 t) (explain-first-deciding-requires t) (explain-slice-write-out t) (explain-add-bind t) (explain-bind-requires-2 t) (explain-explain-requires-6 t) (explain-same-length-7 t) (explain-returns-7 t) (explain-mark-compared-requires t) (explain-same-length-8 t) (explain-returns-8 t))
-    (λ t. explain-rows-lts.spec (explain-rows-claims t) (explain-rows-at t) explain-rows.Post (explain-rows-entry-at-requires t) (explain-rows-next-ranged-requires t) (explain-rows-add-left t) (explain-rows-sub-left t) (explain-rows-returns t) (explain-rows-explain-rows-requires t) (explain-rows-add-explain-rows t) (explain-rows-sub-explain-rows t) (explain-rows-explain-rows-requires-2 t) (explain-rows-same-length t) (explain-rows-returns-2 t) (explain-rows-slice-write-out t) (explain-rows-add-bind t) (explain-rows-bind-requires t) (explain-rows-cast-explain t) (explain-rows-explain-requires t) (explain-rows-same-length-2 t) (explain-rows-returns-3 t))
+    (λ t. explain-lts.spec (explain-claims t) (explain-at t) explain.Post (explain-past-nots-requires t) (explain-entry-at-requires t)
+    (explain-cast-a t) (explain-cast-second t) (explain-side-requires t) (explain-explain-requires t) (explain-explain-requires-2 t)
+    (explain-same-length t) (explain-returns t) (explain-holds-requires t) (explain-left-decides-requires t) (explain-explain-requires-3
+    t) (explain-same-length-2 t) (explain-returns-2 t) (explain-explain-requires-4 t) (explain-same-length-3 t) (explain-returns-3 t)
+    (explain-run-of-requires t) (explain-settled-before-requires t) (explain-mark-whole-requires t) (explain-bind-requires t)
+    (explain-explain-requires-5 t) (explain-same-length-4 t) (explain-returns-4 t) (explain-same-length-5 t) (explain-returns-5 t)
+    (explain-explain-rows-requires t) (explain-same-length-6 t) (explain-returns-6 t) (explain-first-deciding-requires t)
+    (explain-slice-write-out t) (explain-add-bind t) (explain-bind-requires-2 t) (explain-explain-requires-6 t) (explain-same-length-7 t)
+    (explain-returns-7 t) (explain-mark-compared-requires t) (explain-same-length-8 t) (explain-returns-8 t))
+    (λ t. explain-rows-lts.spec (explain-rows-claims t) (explain-rows-at t) explain-rows.Post (explain-rows-entry-at-requires t)
+    (explain-rows-next-ranged-requires t) (explain-rows-add-end t) (explain-rows-returns t) (explain-rows-slice-write-out t)
+    (explain-rows-add-bind t) (explain-rows-bind-requires t) (explain-rows-cast-explain t) (explain-rows-explain-requires t)
+    (explain-rows-sub-left t) (explain-rows-sub-left-2 t) (explain-rows-same-length t) (explain-rows-returns-2 t)
+    (explain-rows-add-explain-rows t) (explain-rows-explain-rows-requires t) (explain-rows-add-explain-rows-2 t)
+    (explain-rows-add-explain-rows-3 t) (explain-rows-sub-explain-rows t) (explain-rows-explain-rows-requires-2 t)
+    (explain-rows-same-length-2 t) (explain-rows-returns-3 t))
