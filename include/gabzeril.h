@@ -18,8 +18,8 @@
  * output and leaves what lies past it. gabzeril_try is the exception: stopped at a step, it names the refusal and
  * keeps what the steps before gave; and the words of its table past the answer may be changed.
  *
- * Stack on the largest inputs of the tests, in KiB: gabzeril_verdict 31, gabzeril_marks 41, gabzeril_part 44,
- * gabzeril_set_verdicts 31, gabzeril_set_part 44, gabzeril_try 55, gabzeril_check_files 57, gabzeril_report 70,
+ * Stack on the largest inputs of the tests, in KiB: gabzeril_verdict 36, gabzeril_marks 44, gabzeril_part 44,
+ * gabzeril_set_verdicts 36, gabzeril_set_part 44, gabzeril_try 60, gabzeril_check_files 62, gabzeril_report 71,
  * every other call below 9. The tests run each in a thread of 128 KiB; that is no promise.
  */
 #ifndef GABZERIL_H
