@@ -75,13 +75,13 @@ fn mark_ranged(pool: &[u32], b: Bindings, e: Entry, row: usize, rows: usize, out
     found
 }
 
-// Whether a quantifier ranges over rows, and what is marked whole.
+// Whether a quantifier ranges over any row, and what is marked whole: 1 + a name whose roots are all marked, or 0.
 pub(crate) struct Whole {
     pub found: bool,
     pub whole: usize,
 }
 
-// The same, and what is then marked whole; the roots of a name that are marked already aren't looked at again.
+// Marks what `mark_ranged` does and tells what is then marked whole. Roots of the name that is marked whole aren't looked at again.
 fn mark_whole(
     pool: &[u32],
     b: Bindings,
