@@ -1,5 +1,7 @@
 // The archive's order of a table's words: column after column, each word but a column's first replaced by its difference from the row
 // above. And back.
+#![tactic(auto)]
+
 ghost use Rattle.std.specs.Prelude.{◌≡◌, ◌+◌, ◌*◌, ◌<◌, ◌≤◌, length, take};
 ghost use Rattle.std.proofs.lemmas.List.Edits.{sets};
 ghost use Rattle.tables.specs.Answers.{unless, fitting};

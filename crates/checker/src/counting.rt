@@ -97,7 +97,7 @@ fn ones(bytes: &[u8]) -> usize
 }
 
 // The verdict and the number of marked rows.
-#[derive(Drop)]
+#[derive(Clone, Copy)]
 struct Reasons {
     verdict: usize,
     rows: usize,

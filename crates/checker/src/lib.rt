@@ -1,4 +1,6 @@
 // A rule file and a pool file: their verdict, and the program's text.
+#![tactic(auto)]
+
 mod counting;
 mod files;
 mod loading;

@@ -5,7 +5,7 @@ use tables::{NESTING_LIMIT, ROW_LIMIT};
 
 // Each variable has a row or nothing: 0 is nothing, else 1 + the row's number. The first `depth` are bound. Each frame of the evaluator
 // and of a switch's reading has several of these: 16 bits hold any place.
-#[derive(Drop)]
+#[derive(Clone, Copy)]
 pub struct Bindings {
     pub row: [u16; Bindings::LIMIT],
     pub depth: u16,

@@ -71,7 +71,7 @@ pub(crate) fn find_runs(pool: &[u32], starts: &mut [u16], ends: &mut [u16])
 }
 
 // A run of rows.
-#[derive(Drop)]
+#[derive(Clone, Copy)]
 pub(crate) struct Run {
     pub start: usize,
     pub rows: usize,

@@ -1,4 +1,6 @@
 // Verdict and marks of a rule on a pool, the verdicts of a set, and trying a plan.
+#![tactic(auto)]
+
 mod bindings;
 mod calls;
 mod certain;

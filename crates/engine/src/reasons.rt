@@ -70,7 +70,7 @@ fn mark_ranged(pool: &[u32], b: Bindings, e: Entry, row: usize, rows: usize, out
 }
 
 // Whether a quantifier ranges over any row, and what is marked whole: 1 + a name whose roots are all marked, or 0.
-#[derive(Drop)]
+#[derive(Clone, Copy)]
 pub(crate) struct Whole {
     pub found: bool,
     pub whole: usize,
@@ -155,7 +155,7 @@ fn first_deciding(
 }
 
 // An entry, and a verdict of it.
-#[derive(Drop)]
+#[derive(Clone, Copy)]
 pub(crate) struct Judged {
     pub entry: usize,
     pub verdict: bool,

@@ -16,7 +16,7 @@ use sets::SET_LIMIT;
 use tables::{ENTRY_WORDS, Entry};
 
 // The way from a row up to its root: the places of the rows on it, by their depth.
-#[derive(Drop)]
+#[derive(Clone, Copy)]
 pub(crate) struct Way {
     pub row: usize,
     pub place: [u16; Bindings::LIMIT],

@@ -1,4 +1,6 @@
 // The C interface: include/gabzeril.h says each function's promise in plain words.
+#![tactic(auto)]
+
 ghost use Rattle.std.specs.Prelude.{◌≡◌, length};
 ghost use Rattle.tables.specs.Rules.{check_rule};
 ghost use Rattle.tables.specs.Tables.{check_table};
@@ -20,7 +22,7 @@ use plans::Trial;
 use tables::Answer;
 
 #[repr(C)]
-#[derive(Drop)]
+#[derive(Clone, Copy)]
 pub struct CAnswer {
     pub number: u32,
     pub place: usize,
@@ -28,7 +30,7 @@ pub struct CAnswer {
 }
 
 #[repr(C)]
-#[derive(Drop)]
+#[derive(Clone, Copy)]
 pub struct CSpan {
     pub start: usize,
     pub length: usize,

@@ -1,4 +1,6 @@
 // Folding: equal siblings of one device's table made one, in a pass over its rows.
+#![tactic(auto)]
+
 mod passing;
 mod writing;
 

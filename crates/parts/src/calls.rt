@@ -55,7 +55,7 @@ fn check_request(checked: Answer, table: &[u32], mode: u32) -> Answer
 }
 
 // Which rows a device sends: a byte for each row, and the answer.
-#[derive(Drop)]
+#[derive(Clone, Copy)]
 struct Choice {
     answer: Answer,
     row: [u8; ROW_LIMIT],

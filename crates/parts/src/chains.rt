@@ -8,7 +8,7 @@ use super::words::{entry_at, row_at};
 use engine::{Bindings, is_named};
 
 // The quantifiers around an entry: variable v is bound by the quantifier at entry[v], and the first `depth` variables are bound.
-#[derive(Drop)]
+#[derive(Clone, Copy)]
 pub struct Binders {
     pub entry: [u16; Bindings::LIMIT],
     pub depth: u16,
@@ -45,7 +45,7 @@ impl Binders {
 }
 
 // Whether a quantifier reaches a row, and then the bindings along the chain.
-#[derive(Drop)]
+#[derive(Clone, Copy)]
 pub struct Chain {
     pub found: bool,
     pub bound: Bindings,

@@ -1,4 +1,6 @@
 // The part of its rows that a device sends, by the rule or the set of rules and the mode.
+#![tactic(auto)]
+
 mod calls;
 mod chains;
 mod device;

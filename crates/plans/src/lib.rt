@@ -1,4 +1,6 @@
 // Plans: steps that set a row's value, add a row in its place, or remove a row, and what each does to a table.
+#![tactic(auto)]
+
 mod changing;
 mod steps;
 
@@ -7,7 +9,7 @@ pub use steps::{ADD, REMOVE, SET, STEP_WORDS};
 use tables::Answer;
 
 // What a step does to a table: the number of words of the table after, or the refusal, and the place of the step's row.
-#[derive(Drop)]
+#[derive(Clone, Copy)]
 pub struct Change {
     pub answer: Answer,
     pub row: usize,
@@ -16,7 +18,7 @@ pub struct Change {
 // What trying a plan answers: the refusal by number and place, 0 and 0 where there is none, the steps done, and the rows of the working
 // table. As C gets it.
 #[repr(C)]
-#[derive(Drop)]
+#[derive(Clone, Copy)]
 pub struct Trial {
     pub number: u32,
     pub place: usize,

@@ -1,4 +1,6 @@
 // Powers of ten, and a number's digits by subtracting them: small collectors can't afford a division for each.
+#![tactic(auto)]
+
 ghost use Rattle.std.specs.Prelude.{◌≡◌};
 ghost use Rattle.powers.specs.Powers.{power_at, digit_at, Subtracted};
 
@@ -13,7 +15,7 @@ const POWERS: [u32; WORD_DIGITS] = [
 ];
 
 // A digit, which is how many times its power was subtracted, and what is left.
-#[derive(Drop)]
+#[derive(Clone, Copy)]
 pub struct Digit {
     pub times: u32,
     pub rest: u32,

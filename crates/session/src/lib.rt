@@ -1,5 +1,7 @@
 // Reads a rule file and a pool file by name and prints the text for them. What a file has and what is printed no contract can say:
 // the work is in `checker::report`.
+#![tactic(auto)]
+
 ghost use Rattle.io.specs.Counts.{IsPrefixLen};
 ghost use Rattle.session.specs.Session.{IsReport};
 

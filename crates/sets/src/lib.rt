@@ -1,4 +1,6 @@
 // Sets of rules laid end to end, with a list of their entry counts: 20, then 1 to 7 rule by rule.
+#![tactic(auto)]
+
 ghost use Rattle.std.specs.Prelude.{◌≡◌, ◌≤◌, length};
 ghost use Rattle.sets.specs.Sets.{set_limit, entries_before, counts_fit, check_set};
 

@@ -66,6 +66,7 @@ listed ks k e = let w = any_at (eqb k) ks e in subst (λ (x : ℕ). x ∈ ks) (s
 -- ---- checks in order: where they end accepted, no place has a fault of any of their numbers, and the other way round
 module _ (fault : ℕ → ℕ → Bool) (n : ℕ) where
   pub no_fault : (ks : List ℕ) → is_done (in_order fault n ks) ≡ true → (k : ℕ) → k ∈ ks → (i : ℕ) → i < n → fault k i ≡ false
+  no_fault [] e k x3 i h = elim x3 [ ]
   no_fault (x ∷ ks) e k (Memᴰ.head s) i h = rw s (none_of (fault x) x n (in_order fault n ks) e i h)
   no_fault (x ∷ ks) e k (Memᴰ.tail m) i h = no_fault ks (unless_any_next (fault x) x n (in_order fault n ks) e) k m i h
 

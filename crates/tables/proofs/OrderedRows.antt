@@ -58,6 +58,7 @@ pub data Rising : List Row → Type 0 where
 
 -- (device, at) identifies a row
 pub rising_key : {T : List Row} → Rising T → (p r : Row) → p ∈ T → r ∈ T → Key p r → p ≡ r
+rising_key none_rise p r x7 _ i = elim x7 [ ]
 rising_key (more_rise h t) p r (Memᴰ.head e) (Memᴰ.head k) i = e ∙ sym k
 rising_key (more_rise h t) p r (Memᴰ.head e) (Memᴰ.tail k) i = absurd (above_key p r (subst (λ (z : Row). Above z r) (sym e) (h r k)) i)
 rising_key (more_rise h t) p r (Memᴰ.tail e) (Memᴰ.head k) i =
@@ -65,6 +66,7 @@ rising_key (more_rise h t) p r (Memᴰ.tail e) (Memᴰ.head k) i =
 rising_key (more_rise h t) p r (Memᴰ.tail e) (Memᴰ.tail k) i = rising_key t p r e k i
 
 pub rising_across : (A B : List Row) → Rising (A ++ B) → (r s : Row) → r ∈ A → s ∈ B → Above r s
+rising_across [] B _ r s x4 m = elim x4 [ ]
 rising_across (x ∷ A) B (more_rise h w) r s (Memᴰ.head e) m = subst (λ (z : Row). Above z s) (sym e) (h s (Memᴰ.append_right A m))
 rising_across (x ∷ A) B (more_rise h w) r s (Memᴰ.tail i) m = rising_across A B w r s i m
 
@@ -223,6 +225,7 @@ module _ (t : List ℕ) (short : table_length t ≡ true) (ok : Ordered (rows t)
 
   pub rows_faultless : (k : ℕ) → k ∈ order_checks → (i : ℕ) → i < row_count t → row_fault t k i ≡ false
   unfolding row_fault
+  rows_faultless k (Memᴰ.tail (Memᴰ.tail (Memᴰ.tail (Memᴰ.tail x17)))) i h = elim x17 [ ]
   rows_faultless k (Memᴰ.head e) i h = rw e (ok.parented.ranged (row_at t i) (row_in t i h))
   rows_faultless k (Memᴰ.tail (Memᴰ.head e)) i h = rw e (ordered i h)
   rows_faultless k (Memᴰ.tail (Memᴰ.tail (Memᴰ.head e))) i h = rw e (parented i h)

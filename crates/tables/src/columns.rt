@@ -5,7 +5,7 @@ ghost use Rattle.tables.specs.Files.{byte_after, next_column, tells_of, format, 
 use super::entries::{B, KIND, TO_CONSTANT};
 
 // Which numbers of a file may have a minus sign.
-#[derive(Drop)]
+#[derive(Clone, Copy)]
 pub(crate) enum Signs {
     Nowhere,
     Values,

@@ -47,7 +47,7 @@ pub fn first_other(table: &[u32]) -> usize
 }
 
 // A run of words: from start up to end.
-#[derive(Drop)]
+#[derive(Clone, Copy)]
 pub struct Span {
     pub start: usize,
     pub end: usize,

@@ -1,4 +1,6 @@
 // Rules and tables as lent runs of words: when they are accepted, joining, one device's rows, files.
+#![tactic(auto)]
+
 mod columns;
 mod devices;
 mod entries;
@@ -29,7 +31,7 @@ pub use tables::{ROW_LIMIT, TABLE_WORDS, check_order, check_table};
 pub use twins::twin_hash;
 
 // What a call answers: its value, or 01's refusal by number and place.
-#[derive(Drop)]
+#[derive(Clone, Copy)]
 pub enum Answer {
     Done(usize),
     Refused { number: u32, place: usize },
@@ -49,7 +51,7 @@ pub fn value_of(answer: Answer) -> usize
 }
 
 // A row of a table.
-#[derive(Drop)]
+#[derive(Clone, Copy)]
 pub struct Row {
     pub device: u32,
     pub at: u32,
@@ -60,7 +62,7 @@ pub struct Row {
 }
 
 // An entry of a rule.
-#[derive(Drop)]
+#[derive(Clone, Copy)]
 pub struct Entry {
     pub kind: u32,
     pub a: u32,

@@ -11,7 +11,7 @@ use super::rows::{AT, ROW_WORDS, is_deeper, is_parent, row_at};
 use super::tables::ROW_LIMIT;
 
 // The first row without its parent; where there is none, also the first whose depth is wrong. The number of rows stands for none.
-#[derive(Drop)]
+#[derive(Clone, Copy)]
 pub(crate) struct ParentFaults {
     pub(crate) parent: usize,
     pub(crate) depth: usize,

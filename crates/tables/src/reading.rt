@@ -10,7 +10,7 @@ use super::columns::{Signs, byte_after, may_sign, tells};
 use super::rows::VALUE_LIMIT;
 
 // Where reading stands. phase: 0 before a number, 1 after its minus sign, 2 in its digits, 3 at fault.
-#[derive(Drop)]
+#[derive(Clone, Copy)]
 pub struct Scan {
     pub phase: u8,
     pub minus: bool,
@@ -22,7 +22,7 @@ pub struct Scan {
 }
 
 // A number whose word is to be stored: its sign, its value so far, and the place of the word.
-#[derive(Drop)]
+#[derive(Clone, Copy)]
 pub struct Number {
     pub minus: bool,
     pub value: u64,

@@ -1,4 +1,6 @@
 // Templates: rules with blanks, comparisons to a parameter by its number. Filling one gives an ordinary rule.
+#![tactic(auto)]
+
 ghost use Rattle.std.specs.Prelude.{◌≡◌, ◌*◌, ◌≤◌, ◌<◌, length, get_or};
 ghost use Rattle.std.proofs.lemmas.List.Edits.{sets};
 ghost use Rattle.base.specs.Search.{first};

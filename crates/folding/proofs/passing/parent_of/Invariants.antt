@@ -1,0 +1,11 @@
+-- `folding::passing::parent_of` meets its contract. Assumes nothing.
+use Prim.Native.Nat.{◌-◌}
+use native.Mathlib.Omega.{arith}
+use Rattle.folding.proofs.ParentSearch.{Seeks, seek_begin, not_first, seek_up, seek_down, seek_end}
+use Rattle.folding.proofs.passing.parent_of.Given as goal
+
+abbrev pub invariant-loop-low : goal.invariant-loop-low
+invariant-loop-low l = Seeks l.table l.row l.low l.high
+
+abbrev pub decreases-loop-low : goal.decreases-loop-low
+decreases-loop-low l = l.high - l.low

@@ -1,0 +1,15 @@
+-- `plans::steps::has_under` meets its contract. Assumes nothing.
+use Prim.Native.Nat.{◌-◌}
+use native.Mathlib.Omega.{arith}
+use Rattle.base.proofs.Search.{Passed, begin, miss, found, found_none}
+use Rattle.tables.specs.Words.{row_at}
+use Rattle.tables.specs.Tables.{is_parent}
+use Rattle.plans.proofs.Finding.{under_here}
+use borrow.Author.Rules.{rules}
+use Rattle.plans.proofs.steps.has_under.Given as goal
+
+abbrev pub invariant-loop-i : goal.invariant-loop-i
+invariant-loop-i l = Passed (λ k. is_parent (row_at l.table k) l.r) l.n l.i
+
+abbrev pub decreases-loop-i : goal.decreases-loop-i
+decreases-loop-i l = l.n - l.i

@@ -1,0 +1,31 @@
+-- `plans::steps::place_for` meets its contract. Assumes nothing.
+use Prim.Native.Nat.{◌-◌}
+use mathlib.Core.Bool.{not}
+use native.Mathlib.Omega.{arith}
+use Rattle.base.proofs.Search.{Passed, begin, hit, miss, none}
+use Rattle.tables.specs.Words.{row_at}
+use Rattle.tables.specs.Tables.{is_above}
+use Rattle.plans.proofs.Finding.{above_here}
+use borrow.Author.Rules.{rules}
+use Rattle.plans.proofs.steps.place_for.Goals as goal
+
+pub loop-i-init : goal.loop-i-init
+loop-i-init c = begin _ _
+
+pub row_at-requires : goal.row_at-requires
+row_at-requires c = c.loop-i-test.true
+
+pub returns-then-not-is_above : goal.returns-then-not-is_above
+returns-then-not-is_above c = hit _ _ _ c.loop-i.invariant c.loop-i-test.true (above_here c.args.r c.row_at.ensures c.is_above.ensures c.if-not-is_above.true)
+
+pub overflow_add-i : goal.overflow_add-i
+overflow_add-i c = omega (arith, c.loop-i-test.true)
+
+pub loop-i-smaller : goal.loop-i-smaller
+loop-i-smaller c = omega (arith, c.loop-i-test.true)
+
+pub loop-i-preserved : goal.loop-i-preserved
+loop-i-preserved c = miss _ _ _ c.loop-i.invariant c.loop-i-test.true (above_here c.args.r c.row_at.ensures c.is_above.ensures c.if-not-is_above.false)
+
+pub returns : goal.returns
+returns c = none _ _ _ c.loop-i.invariant c.loop-i-test.false

@@ -1,0 +1,11 @@
+-- `tables::entries::quantifiers_around` meets its contract. Assumes nothing.
+use native.Mathlib.Omega.{arith}
+use borrow.Author.Rules.{rules}
+use Rattle.tables.proofs.Nesting.{Climbs, climb_begin, climb_child, climb_other, climb_end}
+use Rattle.tables.proofs.entries.quantifiers_around.Given as goal
+
+abbrev pub invariant-loop-i : goal.invariant-loop-i
+invariant-loop-i l = Climbs l.rule l.j l.count l.inner l.i
+
+abbrev pub decreases-loop-i : goal.decreases-loop-i
+decreases-loop-i l = l.i

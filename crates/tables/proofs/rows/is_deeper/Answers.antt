@@ -1,0 +1,6 @@
+-- `tables::rows::is_deeper` meets its contract. Assumes nothing.
+use borrow.Author.Rules.{rules}
+use Rattle.tables.proofs.rows.is_deeper.Goals as goal
+
+pub returns : goal.returns
+returns c = simp (c.wide.ensures, c.wide-2.ensures)

@@ -1,0 +1,15 @@
+-- `tables::writing::plain_fits` meets its contract, by the laws of proofs/Measures.antt. Assumes nothing.
+use Prim.Native.Nat.{ℕ, ◌-◌}
+use mathlib.Core.Path.{ap}
+use lib.Dec.{leb}
+use Rattle.base.proofs.Lists.{length_select}
+use Rattle.tables.proofs.Measures.{Measuring, measure_begin, measure_over, measure_plenty, measure_more, measure_end}
+use borrow.Author.Rules.{rules}
+use native.Mathlib.Omega.{arith}
+use Rattle.tables.proofs.writing.plain_fits.Given as goal
+
+abbrev pub invariant-loop-n : goal.invariant-loop-n
+invariant-loop-n l = Measuring l.words l.bytes l.n
+
+abbrev pub decreases-loop-n : goal.decreases-loop-n
+decreases-loop-n l = 10 - l.n

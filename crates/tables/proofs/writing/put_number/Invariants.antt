@@ -1,0 +1,13 @@
+-- `tables::writing::put_number` meets its contract, by the laws of proofs/Numbers.antt. Assumes nothing.
+use native.Mathlib.Omega.{arith}
+use lib.ListN.{length-set}
+use Rattle.tables.proofs.Digits.{text_pos}
+use Rattle.tables.proofs.Numbers.{Placing, place_begin, place_length, place_room, place_nine, place_more, place_last, place_end}
+use borrow.Author.Rules.{rules}
+use Rattle.tables.proofs.writing.put_number.Given as goal
+
+abbrev pub invariant-loop-i : goal.invariant-loop-i
+invariant-loop-i l = Placing l.initial.out l.at l.w l.out l.i l.v l.p
+
+abbrev pub decreases-loop-i : goal.decreases-loop-i
+decreases-loop-i l = l.i

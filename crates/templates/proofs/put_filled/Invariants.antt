@@ -1,0 +1,15 @@
+-- `templates::put_filled` meets its contract. Assumes nothing.
+use Prim.Native.Nat.{◌-◌}
+use native.Mathlib.Omega.{arith}
+use lib.ListN.{length}
+use borrow.Author.Rules.{rules}
+use Rattle.base.proofs.Copies.{Copying, copy_begin}
+use Rattle.templates.specs.Templates.{filled}
+use Rattle.templates.proofs.Filling.{put_more, put_end}
+use Rattle.templates.proofs.put_filled.Given as goal
+
+abbrev pub invariant-loop-j : goal.invariant-loop-j
+invariant-loop-j l = Copying (filled l.template l.parameters) l.initial.out 0 l.out l.j
+
+abbrev pub decreases-loop-j : goal.decreases-loop-j
+decreases-loop-j l = length l.template - l.j
