@@ -51,6 +51,7 @@ data Falling : List Row → Type 0 where
   more_fall : {x : Row} {xs : List Row} → x.up < x.at → ((y : Row) → y ∈ xs → Above y x) → Falling xs → Falling (x ∷ xs)
 
 up_below : {xs : List Row} → Falling xs → (y : Row) → y ∈ xs → y.up < y.at
+up_below none_fall y x3 = elim x3 [ ]
 up_below (more_fall l h w) y (Memᴰ.head e) = subst (λ (t : Row). t.up < t.at) (sym e) l
 up_below (more_fall l h w) y (Memᴰ.tail m) = up_below w y m
 
@@ -68,6 +69,7 @@ not_above_lem p x l h = not_parent p x (λ e. go (parent_device p x e) (parent_a
 
 -- the walk meets the parent, and goes on as the parent's own
 walk : {L : List Row} → Falling L → (r p : Row) → p ∈ L → is_parent r p ≡ true → lineage L r ≡ p ∷ lineage L p
+walk none_fall r p x5 c = elim x5 [ ]
 walk (more_fall {x = x} {xs = xs} l h w) r p (Memᴰ.head e) c =
     lineage_hit x xs r (subst (λ (t : Row). is_parent r t ≡ true) e c)
     ∙ ap₂ ◌∷◌ (sym e) (sym (lineage_miss x xs p (not_above_lem p x (subst (λ (t : Row). t.up < t.at) (sym e) l) (inl e)) ∙ ap (lineage xs) e))

@@ -105,6 +105,7 @@ module _ (Fs : List Formula) (ds : List Device) (twice : NoneTwice ds) (sends : 
     d_in = sub_in s (Memᴰ.append_right es (Memᴰ.head refl))
 
     other : (xs : List Device) → NoneTwice (xs ++ (d ∷ [])) → (e : Device) → e ∈ xs → ¬ (e.number ≡ d.number)
+    other [] t e x3 k = elim x3 [ ]
     other (x ∷ xs) t e (Memᴰ.head q) k = apart x (xs ++ (d ∷ [])) t d (Memᴰ.append_right xs (Memᴰ.head refl)) (ap (λ (z : Device). z.number) (sym q) ∙ k)
     other (x ∷ xs) t e (Memᴰ.tail m) k = other xs (twice_tail x (xs ++ (d ∷ [])) t) e m k
 

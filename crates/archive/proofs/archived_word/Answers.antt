@@ -9,4 +9,4 @@ returns-then-i-eq0 c = first_archived row_words c.args.table.now c.args.c c.args
 
 pub returns : goal.returns
 returns c = further_archived row_words c.args.table.now c.args.c c.args.i c.word_at-word.ensures
-    c.if-i-eq0.false c.word_at.ensures (search rules) (search rules) (search rules) c.wrapping_sub_u32.ensures
+    c.if-i-eq0.false c.word_at.ensures (search rules) (search rules) (search rules) c.wrapping_sub_u32.ensures.value

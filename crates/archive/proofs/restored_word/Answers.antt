@@ -12,4 +12,4 @@ pub returns : goal.returns
 returns c = further_restored row_words (row_count c.args.columns.now) c.args.columns.now c.args.i c.args.c
     (ap (λ (p : ℕ). get_or c.args.columns.now p 0) c.column_place.ensures.0)
     c.args.table.now c.requires.table_value c.if-i-eq0.false c.requires.c_lt_row_words.1 c.requires.c_lt_row_words.0
-    c.word_at.ensures c.wrapping_add_u32.ensures
+    c.word_at.ensures c.wrapping_add_u32.ensures.value

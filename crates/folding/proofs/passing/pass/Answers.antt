@@ -16,7 +16,7 @@ pub loop-i-init : goal.loop-i-init
 loop-i-init c = go_begin _ _ _ _ c.requires.into_len.0 c.requires.into_len.1
 
 pub moved_row-r-requires-clause-foldable : goal.moved_row-r-requires-clause-foldable
-moved_row-r-requires-clause-foldable c = c.before.requires.0
+moved_row-r-requires-clause-foldable c = c.requires.foldable
 
 pub moved_row-r-requires-clause-i_bound : goal.moved_row-r-requires-clause-i_bound
 moved_row-r-requires-clause-i_bound c = (c.loop-i-test.true, backward c.loop-i.invariant.passing)
@@ -29,7 +29,7 @@ bounds-head-h c = omega (arith, twin_below c.moved_row-r.result, c.twin_hash-h.e
 
 pub overflow_cast-last : goal.overflow_cast-last
 overflow_cast-last c = let below : c.twin_hash-h.result < hashes = omega (arith, twin_below c.moved_row-r.result, c.twin_hash-h.ensures) in
-    omega (arith, head_le _ _ _ c.loop-i.invariant.heads c.twin_hash-h.result below, c.loop-i.invariant.within, few_rows c.before.before.args.table.now c.before.before.requires.0.ordered)
+    omega (arith, head_le _ _ _ c.loop-i.invariant.heads c.twin_hash-h.result below, c.loop-i.invariant.within, few_rows c.args.table.now c.requires.foldable.ordered)
 
 pub last_equal-k-requires-clause-i_bound : goal.last_equal-k-requires-clause-i_bound
 last_equal-k-requires-clause-i_bound c = (c.loop-i.invariant.within, c.loop-i.invariant.passing.ups_long)
@@ -43,7 +43,7 @@ last_equal-k-requires-clause-k_value c = last_is _ _ _ c.loop-i.invariant.heads 
 pub place_into-requires : goal.place_into-requires
 place_into-requires c = (
       c.last_equal-k.ensures.within,
-      omega (arith, c.loop-i-test.true, few_rows c.before.before.before.args.table.now c.before.before.before.requires.0.ordered),
+      omega (arith, c.loop-i-test.true, few_rows c.args.table.now c.requires.foldable.ordered),
       c.loop-i.invariant.passing.into_long,
     )
 
@@ -54,7 +54,7 @@ pub bounds-into-i : goal.bounds-into-i
 bounds-into-i c = omega (
       arith,
       c.loop-i-test.true,
-      few_rows c.before.before.before.args.table.now c.before.before.before.requires.0.ordered,
+      few_rows c.args.table.now c.requires.foldable.ordered,
       c.loop-i.invariant.passing.into_long,
     )
 
@@ -65,7 +65,7 @@ pub bounds-ups-i : goal.bounds-ups-i
 bounds-ups-i c = omega (
       arith,
       c.loop-i-test.true,
-      few_rows c.before.before.before.args.table.now c.before.before.before.requires.0.ordered,
+      few_rows c.args.table.now c.requires.foldable.ordered,
       c.loop-i.invariant.passing.ups_long,
     )
 
@@ -73,13 +73,13 @@ pub offset_bounds-next-i : goal.offset_bounds-next-i
 offset_bounds-next-i c = omega (arith, c.loop-i-test.true)
 
 pub bounds-next-i : goal.bounds-next-i
-bounds-next-i c = omega (arith, c.loop-i-test.true, few_rows c.before.before.before.args.table.now c.before.before.before.requires.0.ordered)
+bounds-next-i c = omega (arith, c.loop-i-test.true, few_rows c.args.table.now c.requires.foldable.ordered)
 
 pub overflow_add-head : goal.overflow_add-head
 overflow_add-head c = omega (arith, c.loop-i-test.true)
 
 pub overflow_cast-head : goal.overflow_cast-head
-overflow_cast-head c = omega (arith, c.loop-i-test.true, few_rows c.before.before.before.args.table.now c.before.before.before.requires.0.ordered)
+overflow_cast-head c = omega (arith, c.loop-i-test.true, few_rows c.args.table.now c.requires.foldable.ordered)
 
 pub offset_bounds-head-h-in-loop-i : goal.offset_bounds-head-h-in-loop-i
 offset_bounds-head-h-in-loop-i c = omega (arith, twin_below c.moved_row-r.result, c.twin_hash-h.ensures)
@@ -94,7 +94,7 @@ pub loop-i-smaller : goal.loop-i-smaller
 loop-i-smaller c = omega (arith, c.loop-i-test.true)
 
 pub loop-i-preserved : goal.loop-i-preserved
-loop-i-preserved c = go_more c.before.before.before.requires.0 (few_rows c.before.before.before.args.table.now c.before.before.before.requires.0.ordered) c.loop-i.invariant c.loop-i-test.true c.moved_row-r.ensures
+loop-i-preserved c = go_more c.requires.foldable (few_rows c.args.table.now c.requires.foldable.ordered) c.loop-i.invariant c.loop-i-test.true c.moved_row-r.ensures
     c.last_equal-k.ensures c.place_into.ensures.0 c.place_into.ensures.1 c.twin_hash-h.ensures
     (omega (arith, twin_below c.moved_row-r.result, c.twin_hash-h.ensures))
 

@@ -53,10 +53,15 @@ returns-then-step-eq-ADD-clause-out_after c = (writes_after _ _ c.requires (add_
     c.args.out.now c.splice-then-step-eq-ADD.ensures.value c.splice-then-step-eq-ADD.ensures.out_after).1
 
 pub overflow_add-before-2 : goal.overflow_add-before-2
-overflow_add-before-2 c = refl
+overflow_add-before-2 c = omega (arith, row_there _ _ c.requires c.if-step-eq-ADD.false)
 
 pub splice-requires-2 : goal.splice-requires-2
-splice-requires-2 c = omega (arith, row_there _ _ c.requires c.if-step-eq-ADD.false)
+splice-requires-2 c = (omega (arith, place_inside _ _ c.requires), omega (arith, row_there _ _ c.requires c.if-step-eq-ADD.false))
 
-pub shape_of-out : goal.shape_of-out
-shape_of-out c = (omega (arith, place_inside _ _ c.requires), omega (arith, row_there _ _ c.requires c.if-step-eq-ADD.false))
+pub returns-clause-value : goal.returns-clause-value
+returns-clause-value c = (writes_after _ _ c.requires (remove_is _ _ c.requires c.if-step-eq-SET.false c.if-step-eq-ADD.false) c.args.out.now c.splice-2.ensures.value
+    c.splice-2.ensures.out_after).0
+
+pub returns-clause-out_after : goal.returns-clause-out_after
+returns-clause-out_after c = (writes_after _ _ c.requires (remove_is _ _ c.requires c.if-step-eq-SET.false c.if-step-eq-ADD.false) c.args.out.now c.splice-2.ensures.value
+    c.splice-2.ensures.out_after).1
