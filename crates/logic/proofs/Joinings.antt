@@ -34,15 +34,15 @@ use Rattle.logic.proofs.Selections.{sub_accepted}
 use Rattle.logic.proofs.Devices.{NoneTwice, apart, twice_tail, Own, in_part, own_of, sent_of}
 
 -- ---- words of several devices, one after another
-module _ (f : Device → List ℕ) where
-  pub whole_concat : (ds : List Device) → ((d : Device) → d ∈ ds → whole row_words (f d) ≡ true) → whole row_words (concat_map f ds) ≡ true
+module _ {A : Type 0} (f : A → List ℕ) where
+  pub whole_concat : (ds : List A) → ((d : A) → d ∈ ds → whole row_words (f d) ≡ true) → whole row_words (concat_map f ds) ≡ true
   whole_concat [] h = refl
   whole_concat (d ∷ ds) h =
       let e : length (f d) ≡ row_words * row_count (f d) = whole_is (f d) (h d (Memᴰ.head refl)) in
       let g : length (concat_map f ds) ≡ row_words * row_count (concat_map f ds) = whole_is (concat_map f ds) (whole_concat ds (λ x m. h x (Memᴰ.tail m))) in
       is_whole (f d ++ concat_map f ds) (row_count (f d ++ concat_map f ds)) (omega (arith, length-append (f d) (concat_map f ds)))
 
-  pub rows_concat : (ds : List Device) → ((d : Device) → d ∈ ds → whole row_words (f d) ≡ true) → rows (concat_map f ds) ≡ concat_map (λ d. rows (f d)) ds
+  pub rows_concat : (ds : List A) → ((d : A) → d ∈ ds → whole row_words (f d) ≡ true) → rows (concat_map f ds) ≡ concat_map (λ d. rows (f d)) ds
   unfolding rows_from
   rows_concat [] h = refl
   rows_concat (d ∷ ds) h = rows_append (f d) (concat_map f ds) (whole_is (f d) (h d (Memᴰ.head refl))) ∙ ap (◌++◌ (rows (f d))) (rows_concat ds (λ x m. h x (Memᴰ.tail m)))

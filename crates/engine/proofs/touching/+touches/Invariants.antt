@@ -1,0 +1,8 @@
+-- `engine::touching::touches`, which calls itself, meets its contract. Assumes nothing.
+use Prim.Native.Nat.{ℕ, ◌<◌, ◌-◌}
+use Rattle.tables.specs.Words.{entry_count}
+use Prim.Native.Nat.{ℕ, ◌<◌}
+use Rattle.engine.proofs.touching.+touches.Given as goal
+
+abbrev pub decreases-touches : goal.decreases-touches
+decreases-touches l = entry_count l.rule.now - l.entry

@@ -1,0 +1,31 @@
+-- `engine::trying::copy_bytes` meets its contract. Assumes nothing.
+use Prim.Native.Nat.{◌-◌}
+use native.Mathlib.Omega.{arith}
+use lib.ListN.{length}
+use Rattle.base.proofs.Copies.{Copying, copy_begin, copy_more, copy_end}
+use borrow.Author.Rules.{rules}
+use Rattle.engine.proofs.trying.copy_bytes.Goals as goal
+
+pub loop-i-init : goal.loop-i-init
+loop-i-init c = copy_begin _ _ _
+
+pub overflow_add-verdicts : goal.overflow_add-verdicts
+overflow_add-verdicts c = omega (arith, c.requires, c.loop-i-test.true)
+
+pub bounds-verdicts-at : goal.bounds-verdicts-at
+bounds-verdicts-at c = omega (arith, c.requires, c.loop-i-test.true, c.loop-i.invariant.len)
+
+pub overflow_add-i : goal.overflow_add-i
+overflow_add-i c = omega (arith, c.loop-i-test.true)
+
+pub loop-i-smaller : goal.loop-i-smaller
+loop-i-smaller c = omega (arith, c.loop-i-test.true)
+
+pub loop-i-preserved : goal.loop-i-preserved
+loop-i-preserved c = copy_more _ _ _ _ _ c.loop-i.invariant c.loop-i-test.true
+
+pub shape_of-verdicts : goal.shape_of-verdicts
+shape_of-verdicts c = c.loop-i.invariant.len
+
+pub returns : goal.returns
+returns c = copy_end _ _ _ _ _ c.loop-i.invariant c.loop-i-test.false
