@@ -14,7 +14,7 @@ use Rattle.base.specs.Lists.{put, select, when, all}
 use Rattle.base.specs.Search.{sum_below}
 use Rattle.base.proofs.Lists.{concat_map_append, select_all}
 use Rattle.base.proofs.Sums.{sum_same}
-use Rattle.tables.specs.Words.{row_words, row_at, row_count, rows_from, rows}
+use Rattle.tables.specs.Words.{columns_of, row_words, row_at, row_count, rows_from, rows}
 use Rattle.tables.specs.Rules.{one}
 use Rattle.tables.specs.declared.Row.{Row}
 use Rattle.logic.specs.Formulas.{Formula}
@@ -103,7 +103,7 @@ module _ (t kept out₀ : List ℕ) (n : ℕ) where
     split =
         let z : n - i ≡ suc (n - (i + 1)) = omega arith in
         ap (λ (k : ℕ). words_of (rows_sent t kept i k)) z
-        ∙ concat_map_append _ (row_sent t i (get_or kept i 0)) (rows_sent t kept (suc i) (n - (i + 1)))
+        ∙ concat_map_append columns_of (row_sent t i (get_or kept i 0)) (rows_sent t kept (suc i) (n - (i + 1)))
         ∙ ap (λ (k : ℕ). here ++ words_of (rows_sent t kept k (n - (i + 1)))) (sym (add-one i))
 
     lengths : length (words_of (rows_sent t kept i (n - i))) ≡ length here + length later
