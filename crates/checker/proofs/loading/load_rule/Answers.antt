@@ -15,13 +15,13 @@ pub slice_bounds-check_rule-end : goal.slice_bounds-check_rule-end
 slice_bounds-check_rule-end c = load_within _ _ check_rule _ _ _ _ c.read_rule-read.ensures.answer c.read_rule-read.ensures.words _ c.in-Done.is
 
 pub slice_bounds-check_rule-end-in-Done : goal.slice_bounds-check_rule-end-in-Done
-slice_bounds-check_rule-end-in-Done c = sym (length-take-le _ _ (load_within _ _ check_rule _ _ _ _ c.read_rule-read.ensures.0 c.read_rule-read.ensures.1 _ c.in-Done.is))
+slice_bounds-check_rule-end-in-Done c = sym (length-take-le _ _ (load_within _ _ check_rule _ _ _ _ c.read_rule-read.ensures.answer c.read_rule-read.ensures.words _ c.in-Done.is))
 
 pub returns-else-number-eq17 : goal.returns-else-number-eq17
 returns-else-number-eq17 c = load_refused _ _ check_rule _ _ _ _ c.read_rule-read.ensures.answer c.read_rule-read.ensures.words _ _ c.in-Refused.is c.if-number-eq17.false
 
 pub returns-in-Refused-checked : goal.returns-in-Refused-checked
-returns-in-Refused-checked c = load_fault _ _ check_rule _ _ _ _ c.read_rule-read.ensures.0 c.read_rule-read.ensures.1 _ c.in-Done.is _ _ _ c.check_rule-checked.ensures c.in-Refused-checked.is
+returns-in-Refused-checked c = load_fault _ _ check_rule _ _ _ _ c.read_rule-read.ensures.answer c.read_rule-read.ensures.words _ c.in-Done.is _ _ _ c.check_rule-checked.ensures c.in-Refused-checked.is
 
 pub returns-in-Done-checked : goal.returns-in-Done-checked
-returns-in-Done-checked c = load_accepted _ _ check_rule _ _ _ _ c.read_rule-read.ensures.0 c.read_rule-read.ensures.1 _ c.in-Done.is _ _ c.check_rule-checked.ensures c.in-Done-checked.is
+returns-in-Done-checked c = load_accepted _ _ check_rule _ _ _ _ c.read_rule-read.ensures.answer c.read_rule-read.ensures.words _ c.in-Done.is _ _ c.check_rule-checked.ensures c.in-Done-checked.is

@@ -18,13 +18,13 @@ pub put_refusal-requires : goal.put_refusal-requires
 put_refusal-requires c = rule_place _ c.load_sized_rule-answer.ensures _ _ c.in-Refused.is
 
 pub returns-in-Done-clause-count : goal.returns-in-Done-clause-count
-returns-in-Done-clause-count c = (prints_same c.args.out.now _ _ (rule_next c.args.rule.now c.load_sized_rule-answer.ensures c.args.pool.now _ c.in-Done.is) c.report_pool.ensures).0
+returns-in-Done-clause-count c = (prints_same c.args.out.now _ _ (rule_next c.args.rule.now c.load_sized_rule-answer.ensures c.args.pool.now _ c.in-Done.is) (c.report_pool.ensures.count, c.report_pool.ensures.bytes)).0
 
 pub returns-in-Done-clause-bytes : goal.returns-in-Done-clause-bytes
-returns-in-Done-clause-bytes c = (prints_same c.args.out.now _ _ (rule_next c.args.rule.now c.load_sized_rule-answer.ensures c.args.pool.now _ c.in-Done.is) c.report_pool.ensures).1
+returns-in-Done-clause-bytes c = (prints_same c.args.out.now _ _ (rule_next c.args.rule.now c.load_sized_rule-answer.ensures c.args.pool.now _ c.in-Done.is) (c.report_pool.ensures.count, c.report_pool.ensures.bytes)).1
 
 pub returns-in-Refused-clause-count : goal.returns-in-Refused-clause-count
-returns-in-Refused-clause-count c = (prints_same c.args.out.now _ _ (rule_refused c.args.rule.now c.load_sized_rule-answer.ensures c.args.pool.now _ _ c.in-Refused.is) c.put_refusal.ensures).0
+returns-in-Refused-clause-count c = (prints_same c.args.out.now _ _ (rule_refused c.args.rule.now c.load_sized_rule-answer.ensures c.args.pool.now _ _ c.in-Refused.is) (c.put_refusal.ensures.count, c.put_refusal.ensures.bytes)).0
 
 pub returns-in-Refused-clause-bytes : goal.returns-in-Refused-clause-bytes
-returns-in-Refused-clause-bytes c = (prints_same c.args.out.now _ _ (rule_refused c.args.rule.now c.load_sized_rule-answer.ensures c.args.pool.now _ _ c.in-Refused.is) c.put_refusal.ensures).1
+returns-in-Refused-clause-bytes c = (prints_same c.args.out.now _ _ (rule_refused c.args.rule.now c.load_sized_rule-answer.ensures c.args.pool.now _ _ c.in-Refused.is) (c.put_refusal.ensures.count, c.put_refusal.ensures.bytes)).1

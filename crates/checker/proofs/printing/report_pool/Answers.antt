@@ -19,13 +19,13 @@ pub put_refusal-requires : goal.put_refusal-requires
 put_refusal-requires c = pool_place _ c.load_sized_pool-answer.ensures _ _ c.in-Refused.is
 
 pub returns-in-Done-clause-count : goal.returns-in-Done-clause-count
-returns-in-Done-clause-count c = (prints_same c.args.out.now _ _ (text_counts c.load_sized_pool-answer.ensures _ c.in-Done.is (counts c.args.rule.now)) c.put_counts.ensures).0
+returns-in-Done-clause-count c = (prints_same c.args.out.now _ _ (text_counts c.load_sized_pool-answer.ensures _ c.in-Done.is (counts c.args.rule.now)) (c.put_counts.ensures.count, c.put_counts.ensures.bytes)).0
 
 pub returns-in-Done-clause-bytes : goal.returns-in-Done-clause-bytes
-returns-in-Done-clause-bytes c = (prints_same c.args.out.now _ _ (text_counts c.load_sized_pool-answer.ensures _ c.in-Done.is (counts c.args.rule.now)) c.put_counts.ensures).1
+returns-in-Done-clause-bytes c = (prints_same c.args.out.now _ _ (text_counts c.load_sized_pool-answer.ensures _ c.in-Done.is (counts c.args.rule.now)) (c.put_counts.ensures.count, c.put_counts.ensures.bytes)).1
 
 pub returns-in-Refused-clause-count : goal.returns-in-Refused-clause-count
-returns-in-Refused-clause-count c = (prints_same c.args.out.now _ _ (text_refused c.load_sized_pool-answer.ensures _ _ c.in-Refused.is _) c.put_refusal.ensures).0
+returns-in-Refused-clause-count c = (prints_same c.args.out.now _ _ (text_refused c.load_sized_pool-answer.ensures _ _ c.in-Refused.is _) (c.put_refusal.ensures.count, c.put_refusal.ensures.bytes)).0
 
 pub returns-in-Refused-clause-bytes : goal.returns-in-Refused-clause-bytes
-returns-in-Refused-clause-bytes c = (prints_same c.args.out.now _ _ (text_refused c.load_sized_pool-answer.ensures _ _ c.in-Refused.is _) c.put_refusal.ensures).1
+returns-in-Refused-clause-bytes c = (prints_same c.args.out.now _ _ (text_refused c.load_sized_pool-answer.ensures _ _ c.in-Refused.is _) (c.put_refusal.ensures.count, c.put_refusal.ensures.bytes)).1
