@@ -2,37 +2,55 @@
 // the work is in `checker::report`.
 #![tactic(auto)]
 
-ghost use Rattle.io.specs.Counts.{IsPrefixLen};
+ghost use Rattle.std.specs.Prelude.{◌≤◌, length};
 ghost use Rattle.session.specs.Session.{IsReport};
 
-use libc::STDOUT_FILENO;
+use std::fs;
+use std::io::{Read, Write, writer};
+use std::rt::Files;
+use std::str;
 
 // One byte more than the longest file, so that a longer one is seen.
 const FILE_ROOM: usize = 65537;
 
-// Reads the file from its start, as far as the buffer goes: its number of bytes. A file that can't be opened counts as empty.
-fn load(path: &[u8], buffer: &mut [u8]) -> usize
-    ensures { IsPrefixLen result buffer.new }
+// Reads until the buffer is full, the input ends or a read fails: the number of bytes read.
+fn fill<F: Read>(file: &mut F, buffer: &mut [u8]) -> usize
+    ensures { result ≤ length buffer.new }
 {
-    let file = os::open_read(path);
-    if file < 0 {
-        return 0;
+    let mut n = 0;
+    while n < buffer.len() {
+        match file.read(&mut buffer[n..]) {
+            Ok(0) | Err(_) => return n,
+            Ok(more) => n += more,
+        }
     }
-    let n = io::read_full(file, buffer);
-    libc::close(file);
     n
 }
 
+// Reads the file from its start, as far as the buffer goes: its number of bytes. A file that can't be opened counts as empty.
+fn load<R: Files>(rt: &R, path: &[u8], buffer: &mut [u8]) -> usize
+    ensures { result ≤ length buffer.new }
+{
+    match str::from_utf8(path) {
+        Ok(name) => match fs::open(rt, name) {
+            Ok(mut file) => fill(&mut file, buffer),
+            Err(_) => 0,
+        },
+        Err(_) => 0,
+    }
+}
+
 // Prints the text for the two files: its number of bytes.
-pub fn run(rule: &[u8], pool: &[u8]) -> usize
+pub fn run<R: Files + Print>(rt: &R, rule: &[u8], pool: &[u8]) -> usize
     ensures { IsReport result }
 {
     let mut first = [0u8; FILE_ROOM];
     let mut second = [0u8; FILE_ROOM];
     let mut text = [0u8; 64];
-    let m = load(rule, &mut first);
-    let n = load(pool, &mut second);
+    let m = load(rt, rule, &mut first);
+    let n = load(rt, pool, &mut second);
     let k = checker::report(&first[..m], &second[..n], &mut text);
-    io::write_all(STDOUT_FILENO, &text[..k]);
+    // A failed write is not told.
+    let _written = writer(rt).write_all(&text[..k]).is_ok();
     k
 }
