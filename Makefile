@@ -9,7 +9,7 @@
 #   make check-examples       the same with sanitizers, run and compared
 #   make check-samples        the program on samples/
 #   make check-hostile        damaged files, values, sets, plans, templates, columns and tables to fold through the C interface (CASES=100000 SEED=1)
-#   make clean                remove build/; target/ belongs to rt
+#   make clean                remove build/ and target/; crates/*/out/ belong to rt
 
 VERSION := $(shell sed -n 's/^.define GABZERIL_VERSION "\(.*\)"$$/\1/p' include/gabzeril.h)
 PREFIX = /usr/local
@@ -27,10 +27,10 @@ SANITIZERS = -g -O1 -fsanitize=address,undefined -fno-sanitize-recover=all
 CASES = 100000
 SEED = 1
 
-# Where rt writes library and program. Others can be named: they are then taken as they are.
+# What rt has built of the crates entry and gabzeril. Others can be named: they are then taken as they are.
 STATICLIB = target/staticlib/libentry.a
 PROGRAM = target/bin/gabzeril
-PROVED := crates.txt $(shell find crates \( -name '*.rt' -o -name '*.antt' \))
+PROVED := crates.txt $(shell find crates -name out -prune -o \( -name '*.rt' -o -name '*.antt' \) -print)
 
 LIBRARY = build/libgabzeril.a
 EXAMPLES = switch collector switch_set collector_set plan hide fill archive fold
@@ -47,15 +47,15 @@ help:
 	@sed -n 's/^#   make/make/p' Makefile
 
 target/bin/gabzeril: $(PROVED) | build
-	@.ci/prove build/program.log rt check gabzeril
-	@touch -c $@
+	@cd crates/gabzeril && ../../.ci/prove ../../build/program.log rt run
+	@mkdir -p target/bin && cp crates/gabzeril/out/gabzeril $@
 
 demo: $(PROGRAM)
 	@samples/run.sh $(PROGRAM) case-f
 
 target/staticlib/libentry.a: $(PROVED) | build
-	@.ci/prove build/library.log rt staticlib entry
-	@touch -c $@
+	@cd crates/entry && ../../.ci/prove ../../build/library.log rt lib
+	@mkdir -p target/staticlib && cp crates/entry/out/libentry.a $@
 
 $(LIBRARY): $(STATICLIB) | build
 	cp $(STATICLIB) $@
@@ -109,4 +109,4 @@ check-hostile: build/sanitized/hostile
 	tests-c/hostile.sh $(CASES) $(SEED)
 
 clean:
-	rm -rf build
+	rm -rf build target

@@ -4,13 +4,13 @@ use native.Mathlib.Nat.{mul-suc}
 use native.Mathlib.Numerals.{add-one}
 use native.Mathlib.Omega.{arith}
 use mathlib.Core.Path.{◌≡◌, refl, sym, ap, ap₂, subst, ◌∙◌}
-use mathlib.Core.Bool.{Bool, true, false, cond, true≢false}
+use mathlib.Core.Bool.{Bool, true, cond, true≢false}
 use mathlib.Core.List.{List, ◌++◌}
 use lib.ListN.{length, take, drop, replicate, length-append, length-drop, length-replicate, take-append-drop}
 use lib.Seq.{sets, sets-eq, length-sets, length-take-le, take_all, take_at, drop_at, drop-drop}
 use lib.Dec.{leb}
 use borrow.Author.Tests.{le-leb, lt-leb, leb-true}
-use Rattle.tables.specs.Answers.{number, place, value, is_done, and_then, unless}
+use Rattle.tables.specs.Answers.{value, is_done, and_then, unless}
 use Rattle.tables.specs.Words.{row_words, rows}
 use Rattle.tables.specs.Tables.{check_table, accepted_table}
 use Rattle.tables.specs.declared.Answer.{Answer}

@@ -1,23 +1,22 @@
 -- The way from a row up to its root, as the code notes it, and the row on it that a quantifier reaches. Assumes nothing.
 use Prim.Native.Nat.{ℕ, suc, ◌+◌, ◌-◌, ◌<◌, ◌≤◌}
-use mathlib.Core.Path.{◌≡◌, refl, sym, ap, ap₂, subst, ◌∙◌}
+use mathlib.Core.Path.{◌≡◌, refl, sym, ap, subst, ◌∙◌}
 use mathlib.Core.Logic.{◌⊎◌, inl, inr, ⊎_elim}
-use mathlib.Core.Bool.{Bool, true, false, not, cond, true≢false}
+use mathlib.Core.Bool.{Bool, true, false, cond, true≢false}
 use mathlib.Core.List.{List}
-use native.Mathlib.Nat.{eq-or-lt_of_le}
 use native.Mathlib.Numerals.{add-one}
 use native.Mathlib.Omega.{arith}
 use lib.ListN.{length, get_or, set, replicate, length-set, get_or-replicate, get_or-eq_default}
 use lib.Seq.{get_or-set_same, get_or-set_other}
 use lib.Dec.{ltb, eqb}
-use borrow.Author.Tests.{lt-ltb, ltb-true, ltb-false, eqb-true, eqb-false, eq-eqb, ne_eqb, not-true, not-false}
+use borrow.Author.Tests.{lt-ltb, ltb-true, ltb-false, eqb-true, eqb-false, eq-eqb, ne_eqb}
 use Rattle.base.proofs.Bools.{either}
 use Rattle.tables.specs.Words.{row_at, row_count}
 use Rattle.tables.specs.Rules.{nesting_limit}
 use Rattle.tables.specs.Tables.{root, is_parent, accepted_table}
 use Rattle.tables.specs.declared.Row.{Row}
 use Rattle.tables.specs.declared.Entry.{Entry}
-use Rattle.tables.proofs.Accepted.{ordered, has_parent}
+use Rattle.tables.proofs.Accepted.{ordered}
 use Rattle.tables.proofs.Ordered as tables
 use Rattle.logic.specs.Verdict.{named}
 use Rattle.engine.specs.Touching.{OnWay, own, up, noted_on_way, WayUp, depth_under, depth_of, Lands}

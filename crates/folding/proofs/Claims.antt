@@ -1,8 +1,8 @@
 -- What is claimed of every accepted call. Assumes nothing.
-use Prim.Native.Nat.{ℕ, ◌*◌, ◌≤◌, ◌<◌}
-use mathlib.Core.Path.{◌≡◌, refl, sym, ap, subst, ◌∙◌}
-use mathlib.Core.Bool.{true, false}
-use mathlib.Core.List.{List, []}
+use Prim.Native.Nat.{ℕ, ◌≤◌, ◌<◌}
+use mathlib.Core.Path.{◌≡◌, sym, ap, subst, ◌∙◌}
+use mathlib.Core.Bool.{true}
+use mathlib.Core.List.{List}
 use native.Mathlib.Omega.{arith}
 use lib.ListN.{length}
 use lib.Dec.{leb}
@@ -11,17 +11,16 @@ use Rattle.base.specs.Lists.{◌∈◌}
 use Rattle.base.proofs.Bools.{and_both}
 use Rattle.tables.specs.Answers.{is_done, value}
 use Rattle.tables.specs.Words.{whole, row_words, row_at, row_count, rows, words_of}
-use Rattle.tables.specs.Tables.{row_limit, table_length, accepted_table, other_device}
+use Rattle.tables.specs.Tables.{row_limit, table_length, accepted_table}
 use Rattle.tables.specs.declared.Row.{Row}
-use Rattle.tables.specs.declared.Answer.{Answer}
 use Rattle.tables.specs.declared.Answer.TheVariants.{Done}
 use Rattle.tables.proofs.Accepted.{ordered, length_ok}
 use Rattle.tables.proofs.Ordered.{few_rows}
 use Rattle.tables.proofs.Proper.{Proper, rows_proper, proper_accepted}
 use Rattle.tables.proofs.RowLists.{length_rows, row_in}
-use Rattle.tables.proofs.RowWords.{length_words, words_whole, rows_words, words_rows}
+use Rattle.tables.proofs.RowWords.{words_whole, rows_words, words_rows}
 use Rattle.tables.proofs.Whole.{table_whole}
-use Rattle.folding.specs.Folding.{twins_in, with_up, folded, Foldings, fold_answer, folded_table, Folds, FoldsOf}
+use Rattle.folding.specs.Folding.{twins_in, folded, fold_answer, folded_table, FoldsOf}
 use Rattle.folding.specs.Passing.{Foldable}
 use Rattle.folding.proofs.Foldings as laws
 use Rattle.folding.proofs.Foldings.{Tidy, none_apart, folded_none, folded_shorter}

@@ -2,18 +2,18 @@
 use Prim.Native.Nat.{ℕ, zero, suc, ◌*◌, ◌≤◌, ◌<◌}
 use mathlib.Core.Path.{◌≡◌, refl, sym, ap, subst, ◌∙◌}
 use mathlib.Core.Logic.{inl, inr, ⊎_elim}
-use mathlib.Core.Bool.{Bool, true, false, true≢false}
+use mathlib.Core.Bool.{Bool, true, false}
 use mathlib.Core.List.Memᴰ
 use mathlib.Core.List.{List, [], ◌∷◌, ◌++◌, append-nil}
 use native.Mathlib.Decide.{dec_lt}
 use native.Mathlib.Omega.{arith}
 use lib.ListN.{length, get_or}
 use lib.Dec.{eqb}
-use borrow.Author.Tests.{eqb-true, eq-eqb, ne_eqb}
+use borrow.Author.Tests.{eq-eqb, ne_eqb}
 use Rattle.base.specs.Lists.{◌∈◌, when}
 use Rattle.base.specs.Search.{first, sum_below}
 use Rattle.base.proofs.Bools.{either}
-use Rattle.base.proofs.Search.{first_le, none_before, at_first}
+use Rattle.base.proofs.Search.{none_before, at_first}
 use Rattle.tables.specs.Words.{row_words, row_at, row_count, rows, words_of}
 use Rattle.tables.specs.Tables.{root, is_parent, is_twin}
 use Rattle.tables.specs.declared.Row.{Row}

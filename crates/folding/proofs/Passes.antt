@@ -11,7 +11,7 @@ use lib.Dec.{eqb}
 use borrow.Author.Tests.{eqb-true, eq-eqb}
 use Rattle.base.specs.Search.{first}
 use Rattle.base.proofs.Bools.{either}
-use Rattle.base.proofs.Search.{first_le, first_same, none_before, at_first, hit, none, Passed}
+use Rattle.base.proofs.Search.{first_le, first_same, none_before, at_first}
 use Rattle.tables.specs.Words.{row_at, row_count}
 use Rattle.tables.specs.Links.{hashes, twin_hash}
 use Rattle.tables.specs.Tables.{row_limit, root, is_parent, is_twin}

@@ -1,5 +1,5 @@
 -- 02, wish 12: blocks entered twice. Equal siblings of one device's table are folded, one folding after another. Assumes nothing.
-use Rattle.std.specs.Prelude.{ℕ, zero, suc, ◌*◌, ◌≤◌, ◌≡◌, Bool, true, cond, not, ◌&&◌, List, [], ◌∷◌, map, length, take, leb}
+use Rattle.std.specs.Prelude.{ℕ, zero, suc, ◌*◌, ◌≤◌, ◌≡◌, true, cond, not, ◌&&◌, List, [], ◌∷◌, map, length, take, leb}
 use Rattle.base.specs.Lists.{◌∈◌, select, concat_map}
 use Rattle.tables.specs.Answers.{is_done, value, and_then, unless, unless_any, output}
 use Rattle.tables.specs.Words.{row_words, row_count, rows, words_of}

@@ -47,10 +47,10 @@ module _ (T : List Row) (keep : Row → Bool) where
       (because_in c (holds φ (select keep T) d ρ) (holds ψ (select keep T) d ρ) _ _ _ _
       (marks_kept φ d K ρ h sl x) (marks_kept ψ d K ρ h sr x) m)
   marks_kept (quantified q o n φ) d K ρ h s x m = concat_map_within
-    (λ r. r ∷ reason φ (select keep T) (suc d) (bind d (bound r) ρ)) (λ r. r ∷ reason φ T (suc d) (bind d (bound r) ρ)) (λ r i. (
-    witnesses_thin q f g (ranges o n ρ) keep T (thin T keep q o n φ d K ρ h s g same) i,
-    λ y. search (cons_in, marks_kept φ (suc d) (deeper o n d K) (bind d (bound r) ρ) (fine r i) body y),
-  )) m
+      (λ r. r ∷ reason φ (select keep T) (suc d) (bind d (bound r) ρ)) (λ r. r ∷ reason φ T (suc d) (bind d (bound r) ρ)) (λ r i. (
+        witnesses_thin q f g (ranges o n ρ) keep T (thin T keep q o n φ d K ρ h s g same) i,
+        λ y. search (cons_in, marks_kept φ (suc d) (deeper o n d K) (bind d (bound r) ρ) (fine r i) body y),
+      )) m
     where
       f : Row → Bool
       f r = holds φ T (suc d) (bind d (bound r) ρ)

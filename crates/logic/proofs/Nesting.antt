@@ -18,7 +18,7 @@ use Rattle.tables.proofs.AcceptedRule as entries
 use Rattle.tables.proofs.AcceptedRule.{refused_entry, passed_entries}
 use Rattle.tables.proofs.Answers.{FirstAtFault}
 use Rattle.logic.specs.Formulas.{Formula, joined, and, Operand, build, formula_by}
-use Rattle.logic.specs.Nesting.{levels, Limited, LevelsLimited}
+use Rattle.logic.specs.Nesting.{levels, LevelsLimited}
 use Rattle.logic.proofs.Formulas.{later, later_is, formula_later, formula_at_lem}
 use Rattle.logic.proofs.EntryTree.{parent_kind, parent_of_lem}
 

@@ -5,10 +5,9 @@
 ghost use Rattle.std.specs.Prelude.{◌≤◌, length};
 ghost use Rattle.session.specs.Session.{IsReport};
 
-use std::fs;
 use std::io::{Read, Write, writer};
 use std::rt::Files;
-use std::str;
+use std::{fs, str};
 
 // One byte more than the longest file, so that a longer one is seen.
 const FILE_ROOM: usize = 65537;

@@ -14,11 +14,10 @@ use Rattle.base.specs.Lists.{◌∈◌}
 use Rattle.base.specs.Search.{first, some}
 use Rattle.base.proofs.Bools.{either, and_left, and_right, and_both, or_left, or_right}
 use Rattle.base.proofs.Search.{at_first, none_before, some_at}
-use Rattle.tables.specs.Answers.{is_done, unless, in_order}
+use Rattle.tables.specs.Answers.{is_done, in_order}
 use Rattle.tables.specs.Words.{not_identifier, row_words, row_at, row_count}
 use Rattle.tables.specs.Tables.{root, is_parent, is_deeper, is_above, out_of_range, not_above, no_parent, wrong_depth, row_fault, row_limit, table_length, table_checks, check_table, order_checks, check_order, ordered_table}
 use Rattle.tables.specs.Devices.{from_device}
-use Rattle.tables.specs.declared.Answer.{Answer}
 use Rattle.tables.specs.declared.Answer.TheVariants.{Refused}
 use Rattle.tables.specs.declared.Row.{Row}
 use Rattle.tables.proofs.Answers.{before, unless_ok, unless_next, unless_passed, unless_past, listed, no_fault, in_order_passed, FirstAtFault, first_at_fault, passed_earlier}

@@ -1,13 +1,13 @@
 -- A call of filling is accepted exactly if the template and its parameters fit each other (specs/Templates). Assumes nothing.
 use Prim.Native.Nat.{ℕ, ◌<◌}
 use mathlib.Core.Path.{◌≡◌, sym, ap, ◌∙◌}
-use mathlib.Core.Bool.{Bool, true, false, not, ◌&&◌}
+use mathlib.Core.Bool.{true, false, not}
 use mathlib.Core.List.{List}
 use native.Mathlib.Omega.{arith}
 use lib.ListN.{length}
-use lib.Dec.{eqb, leb}
+use lib.Dec.{leb}
 use borrow.Author.Tests.{leb-true, leb-false, le-leb, lt-leb, ltb-true, eqb-true, eq-eqb, not-true, not-false}
-use Rattle.base.specs.Search.{first, some}
+use Rattle.base.specs.Search.{first}
 use Rattle.base.proofs.Bools.{either, and_left, and_right, and_both, and_rest}
 use Rattle.base.proofs.Search.{at_first, some_at, some_none, none_at}
 use Rattle.tables.specs.Answers.{is_done, unless, unless_any, fitting}

@@ -1,8 +1,6 @@
 -- `archive::put_column` meets its contract. Assumes nothing.
-use Rattle.std.proofs.Common.{◌-◌, ◌*◌, arith, rules}
-use Rattle.base.proofs.Copies.{Copying, copy_begin}
-use Rattle.tables.specs.Words.{row_words}
-use Rattle.archive.specs.Archive.{words_below, archived_word}
+use Rattle.std.proofs.Common.{arith}
+use Rattle.base.proofs.Copies.{copy_begin}
 use Rattle.archive.proofs.Laying.{word_laid, words_laid}
 use Rattle.archive.proofs.put_column.Goals as goal
 

@@ -1,9 +1,8 @@
 -- `archive::put_column` meets its contract. Assumes nothing.
-use Rattle.std.proofs.Common.{◌-◌, ◌*◌, arith, rules}
-use Rattle.base.proofs.Copies.{Copying, copy_begin}
+use Rattle.std.proofs.Common.{◌-◌, ◌*◌}
+use Rattle.base.proofs.Copies.{Copying}
 use Rattle.tables.specs.Words.{row_words}
 use Rattle.archive.specs.Archive.{words_below, archived_word}
-use Rattle.archive.proofs.Laying.{word_laid, words_laid}
 use Rattle.archive.proofs.put_column.Given as goal
 
 abbrev pub invariant-loop-i : goal.invariant-loop-i

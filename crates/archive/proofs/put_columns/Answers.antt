@@ -1,8 +1,6 @@
 -- `archive::put_columns` meets its contract. Assumes nothing.
-use Rattle.std.proofs.Common.{◌-◌, arith}
-use Rattle.tables.specs.Words.{row_words, row_count}
-use Rattle.archive.specs.Archive.{archived_word}
-use Rattle.archive.proofs.Laying.{LinesLaid, none_laid, line_laid, lines_laid}
+use Rattle.std.proofs.Common.{arith}
+use Rattle.archive.proofs.Laying.{none_laid, line_laid, lines_laid}
 use Rattle.archive.proofs.put_columns.Goals as goal
 
 pub loop-c-init : goal.loop-c-init

@@ -1,8 +1,8 @@
 -- `archive::put_columns` meets its contract. Assumes nothing.
-use Rattle.std.proofs.Common.{◌-◌, arith}
+use Rattle.std.proofs.Common.{◌-◌}
 use Rattle.tables.specs.Words.{row_words, row_count}
 use Rattle.archive.specs.Archive.{archived_word}
-use Rattle.archive.proofs.Laying.{LinesLaid, none_laid, line_laid, lines_laid}
+use Rattle.archive.proofs.Laying.{LinesLaid}
 use Rattle.archive.proofs.put_columns.Given as goal
 
 abbrev pub invariant-loop-c : goal.invariant-loop-c

@@ -1,8 +1,6 @@
 -- `archive::put_row` meets its contract. Assumes nothing.
-use Rattle.std.proofs.Common.{◌-◌, ◌*◌, refl, ◌∙◌, arith}
-use Rattle.base.proofs.Copies.{Copying, copy_begin, copy_before}
-use Rattle.tables.specs.Words.{row_words, row_count}
-use Rattle.archive.specs.Archive.{words_below, restored_word}
+use Rattle.std.proofs.Common.{refl, ◌∙◌, arith}
+use Rattle.base.proofs.Copies.{copy_begin, copy_before}
 use Rattle.archive.proofs.Laying.{word_laid, words_laid}
 use Rattle.archive.proofs.put_row.Goals as goal
 

@@ -1,9 +1,8 @@
 -- `archive::put_row` meets its contract. Assumes nothing.
-use Rattle.std.proofs.Common.{◌-◌, ◌*◌, refl, ◌∙◌, arith}
-use Rattle.base.proofs.Copies.{Copying, copy_begin, copy_before}
+use Rattle.std.proofs.Common.{◌-◌, ◌*◌}
+use Rattle.base.proofs.Copies.{Copying}
 use Rattle.tables.specs.Words.{row_words, row_count}
 use Rattle.archive.specs.Archive.{words_below, restored_word}
-use Rattle.archive.proofs.Laying.{word_laid, words_laid}
 use Rattle.archive.proofs.put_row.Given as goal
 
 abbrev pub invariant-loop-c : goal.invariant-loop-c

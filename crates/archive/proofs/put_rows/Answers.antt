@@ -1,10 +1,10 @@
 -- `archive::put_rows` meets its contract. Assumes nothing.
-use Rattle.std.proofs.Common.{◌-◌, arith}
+use Rattle.std.proofs.Common.{arith}
 use Rattle.base.proofs.Copies.{copied_front}
 use Rattle.tables.specs.Words.{row_words, row_count}
 use Rattle.archive.specs.Archive.{restored_word}
 use Rattle.archive.proofs.ByPlace.{lines_length}
-use Rattle.archive.proofs.Laying.{LinesLaid, none_laid, line_laid, lines_laid}
+use Rattle.archive.proofs.Laying.{none_laid, line_laid, lines_laid}
 use Rattle.archive.proofs.put_rows.Goals as goal
 
 pub loop-i-init : goal.loop-i-init

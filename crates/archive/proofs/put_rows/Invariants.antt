@@ -1,10 +1,8 @@
 -- `archive::put_rows` meets its contract. Assumes nothing.
-use Rattle.std.proofs.Common.{◌-◌, arith}
-use Rattle.base.proofs.Copies.{copied_front}
-use Rattle.tables.specs.Words.{row_words, row_count}
+use Rattle.std.proofs.Common.{◌-◌}
+use Rattle.tables.specs.Words.{row_words}
 use Rattle.archive.specs.Archive.{restored_word}
-use Rattle.archive.proofs.ByPlace.{lines_length}
-use Rattle.archive.proofs.Laying.{LinesLaid, none_laid, line_laid, lines_laid}
+use Rattle.archive.proofs.Laying.{LinesLaid}
 use Rattle.archive.proofs.put_rows.Given as goal
 
 abbrev pub invariant-loop-i : goal.invariant-loop-i

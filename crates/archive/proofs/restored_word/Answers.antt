@@ -1,5 +1,5 @@
 -- `archive::restored_word` meets its contract. Assumes nothing.
-use Rattle.std.proofs.Common.{ℕ, get_or, ap, rules}
+use Rattle.std.proofs.Common.{ℕ, get_or, ap}
 use Rattle.tables.specs.Words.{row_words, row_count}
 use Rattle.archive.proofs.ColumnWords.{first_restored, further_restored}
 use Rattle.archive.proofs.restored_word.Goals as goal

@@ -1,5 +1,5 @@
 -- `archive::to_columns` meets its contract. Assumes nothing.
-use Rattle.std.proofs.Common.{sym, ap, ◌∙◌, rules}
+use Rattle.std.proofs.Common.{sym, ap, ◌∙◌}
 use Rattle.tables.specs.Answers.{is_done}
 use Rattle.tables.specs.Words.{row_words}
 use Rattle.archive.specs.Archive.{to_columns}

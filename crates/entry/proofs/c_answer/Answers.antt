@@ -2,7 +2,6 @@
 use mathlib.Core.Path.{ap, sym}
 use Rattle.entry.specs.Interface.{answered}
 use Rattle.tables.specs.declared.Answer.{Answer}
-use borrow.Author.Rules.{rules}
 use Rattle.entry.proofs.c_answer.Goals as goal
 
 pub returns-in-Done : goal.returns-in-Done

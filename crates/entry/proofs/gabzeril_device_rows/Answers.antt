@@ -1,9 +1,6 @@
 -- `entry::gabzeril_device_rows` meets its contract. Assumes nothing.
-use Rattle.entry.specs.Interface.{spanned}
 use mathlib.Core.Path.{ap₂}
 use Prim.Native.Nat.{ℕ, ◌-◌}
-use Rattle.entry.specs.declared.CSpan.{CSpan}
-use borrow.Author.Rules.{rules}
 use Rattle.entry.proofs.gabzeril_device_rows.Goals as goal
 
 pub returns : goal.returns

@@ -2,7 +2,6 @@
 use mathlib.Core.Path.{ap, ◌∙◌}
 use Rattle.entry.specs.Interface.{answered}
 use Rattle.tables.specs.declared.Answer.{Answer}
-use borrow.Author.Rules.{rules}
 use Rattle.entry.proofs.gabzeril_part.Goals as goal
 
 pub returns-clause-answer : goal.returns-clause-answer

@@ -1,6 +1,5 @@
 -- `folding::check_foldable` meets its contract. Assumes nothing.
 use mathlib.Core.Path.{sym, ◌∙◌}
-use borrow.Author.Rules.{rules}
 use Rattle.folding.proofs.Answers.{stop_before, stop_14, foldable_passed}
 use Rattle.folding.proofs.check_foldable.Goals as goal
 

@@ -3,7 +3,6 @@ use mathlib.Core.List.{List}
 use mathlib.Core.Path.{refl, sym, ap, ◌∙◌}
 use native.Mathlib.Omega.{arith}
 use lib.Seq.{sets}
-use borrow.Author.Rules.{rules}
 use Rattle.tables.specs.Answers.{is_done}
 use Rattle.tables.specs.Words.{words_of}
 use Rattle.tables.specs.declared.Row.{Row}

@@ -1,7 +1,6 @@
 -- `powers::digit_at` meets its contract, by the laws of proofs/Powers.antt. Assumes nothing.
 use native.Mathlib.Omega.{arith}
-use Rattle.powers.proofs.Powers.{Subtracting, subtract_begin, subtract_times, subtract_less, subtract_more, subtract_end}
-use borrow.Author.Rules.{rules}
+use Rattle.powers.proofs.Powers.{subtract_begin, subtract_times, subtract_less, subtract_more, subtract_end}
 use Rattle.powers.proofs.digit_at.Goals as goal
 
 pub loop-rest-init : goal.loop-rest-init

@@ -1,7 +1,6 @@
 -- `powers::power` meets its contract: each entry of the table is its power. Assumes nothing.
 use native.Mathlib.Omega.{arith}
 use Rattle.powers.proofs.Powers.{entry_is}
-use borrow.Author.Rules.{rules}
 use Rattle.powers.proofs.power.Goals as goal
 
 pub returns-then-i-lt-WORD_DIGITS : goal.returns-then-i-lt-WORD_DIGITS

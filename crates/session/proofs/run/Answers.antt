@@ -1,7 +1,7 @@
 -- `session::run` meets its contract: what it prints is the text's whole. Assumes nothing.
 use Rattle.std.proofs.Common.{ℕ, ◌∙◌, arith}
-use lib.ListN.{replicate, length-replicate}
-use Rattle.checker.proofs.Lengths.{report_printed, report_within}
+use lib.ListN.{length-replicate}
+use Rattle.checker.proofs.Lengths.{report_printed}
 use Rattle.session.proofs.run.Goals as goal
 
 pub returns : goal.returns

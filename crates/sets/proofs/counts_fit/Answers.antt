@@ -1,5 +1,4 @@
 -- `sets::counts_fit` meets its contract. Assumes nothing.
-use borrow.Author.Tests.{not-true, not-false}
 use Rattle.sets.proofs.Sets.{number_fails, number_few, number_passes}
 use Rattle.sets.proofs.counts_fit.Goals as goal
 

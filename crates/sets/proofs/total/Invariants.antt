@@ -1,9 +1,7 @@
 -- `sets::total` meets its contract. Assumes nothing.
 use Prim.Native.Nat.{◌-◌}
-use mathlib.Core.Path.{refl}
-use native.Mathlib.Omega.{arith}
 use lib.ListN.{length}
-use Rattle.base.proofs.Sums.{Summed, sum_begin, sum_more, sum_end}
+use Rattle.base.proofs.Sums.{Summed}
 use Rattle.sets.specs.Sets.{entries_of}
 use Rattle.sets.proofs.total.Given as goal
 

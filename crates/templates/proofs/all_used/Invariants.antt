@@ -1,10 +1,7 @@
 -- `templates::all_used` meets its contract: a search. Assumes nothing.
 use Prim.Native.Nat.{◌-◌}
-use mathlib.Core.Path.{sym, ap, ◌∙◌}
 use mathlib.Core.Bool.{not}
-use borrow.Author.Rules.{rules}
-use native.Mathlib.Omega.{arith}
-use Rattle.base.proofs.Search.{Passed, begin, miss, found, found_none}
+use Rattle.base.proofs.Search.{Passed}
 use Rattle.templates.specs.Templates.{is_used}
 use Rattle.templates.proofs.all_used.Given as goal
 

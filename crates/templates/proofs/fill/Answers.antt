@@ -1,7 +1,5 @@
 -- `templates::fill` meets its contract. Assumes nothing.
 use mathlib.Core.Path.{sym, ◌∙◌}
-use borrow.Author.Rules.{rules}
-use borrow.Author.Tests.{not-true, not-false}
 use Rattle.templates.proofs.Answers.{each_has_parameter, entries_whole, as_it_came, stop_template, stop_21, stop_22, stop_17, all_passed, put_out}
 use Rattle.templates.proofs.fill.Goals as goal
 
@@ -49,10 +47,10 @@ put_filled-requires-clause-template_len c = (entries_whole c.args.template.now (
 
 pub returns-clause-answer : goal.returns-clause-answer
 returns-clause-answer c = all_passed c.args.template.now c.args.parameters.now c.args.out.now
-          (sym c.check_template-checked.ensures ∙ c.in_default.is) c.first_lacking-missing.ensures c.if-missing-template.false
-          c.parameters_fit.ensures c.if-not-parameters_fit.false c.if-out-template.false
+    (sym c.check_template-checked.ensures ∙ c.in_default.is) c.first_lacking-missing.ensures c.if-missing-template.false
+    c.parameters_fit.ensures c.if-not-parameters_fit.false c.if-out-template.false
 
 pub returns-clause-words : goal.returns-clause-words
 returns-clause-words c = put_out c.args.template.now c.args.parameters.now c.args.out.now
-          (sym c.check_template-checked.ensures ∙ c.in_default.is) c.first_lacking-missing.ensures c.if-missing-template.false
-          c.parameters_fit.ensures c.if-not-parameters_fit.false c.if-out-template.false c.put_filled.ensures
+    (sym c.check_template-checked.ensures ∙ c.in_default.is) c.first_lacking-missing.ensures c.if-missing-template.false
+    c.parameters_fit.ensures c.if-not-parameters_fit.false c.if-out-template.false c.put_filled.ensures

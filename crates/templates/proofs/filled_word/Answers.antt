@@ -1,8 +1,6 @@
 -- `templates::filled_word` meets its contract. Assumes nothing.
 use mathlib.Core.Path.{sym, ◌∙◌}
 use native.Mathlib.Omega.{arith}
-use borrow.Author.Rules.{rules}
-use borrow.Author.Tests.{not-true, not-false}
 use Rattle.templates.proofs.Filling.{other_word, constant_word, number_word, parameter_word, kept_word}
 use Rattle.templates.proofs.filled_word.Goals as goal
 

@@ -1,9 +1,7 @@
 -- `templates::first_lacking` meets its contract: a search. Assumes nothing.
-use Prim.Native.Nat.{◌-◌}
 use mathlib.Core.Path.{sym, ◌∙◌}
 use native.Mathlib.Omega.{arith}
-use Rattle.base.proofs.Search.{Passed, begin, hit, miss, none}
-use Rattle.templates.specs.Templates.{lacks_parameter}
+use Rattle.base.proofs.Search.{begin, hit, miss, none}
 use Rattle.templates.proofs.first_lacking.Goals as goal
 
 pub loop-i-init : goal.loop-i-init

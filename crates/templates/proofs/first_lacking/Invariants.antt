@@ -1,8 +1,6 @@
 -- `templates::first_lacking` meets its contract: a search. Assumes nothing.
 use Prim.Native.Nat.{◌-◌}
-use mathlib.Core.Path.{sym, ◌∙◌}
-use native.Mathlib.Omega.{arith}
-use Rattle.base.proofs.Search.{Passed, begin, hit, miss, none}
+use Rattle.base.proofs.Search.{Passed}
 use Rattle.templates.specs.Templates.{lacks_parameter}
 use Rattle.templates.proofs.first_lacking.Given as goal
 

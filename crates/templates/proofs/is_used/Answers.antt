@@ -1,9 +1,7 @@
 -- `templates::is_used` meets its contract: a search. Assumes nothing.
-use Prim.Native.Nat.{◌-◌}
 use mathlib.Core.Path.{sym, ◌∙◌}
 use native.Mathlib.Omega.{arith}
-use Rattle.base.proofs.Search.{Passed, begin, miss, found, found_none}
-use Rattle.templates.specs.Templates.{has_number}
+use Rattle.base.proofs.Search.{begin, miss, found, found_none}
 use Rattle.templates.proofs.is_used.Goals as goal
 
 pub loop-i-init : goal.loop-i-init

@@ -1,8 +1,6 @@
 -- `templates::is_used` meets its contract: a search. Assumes nothing.
 use Prim.Native.Nat.{◌-◌}
-use mathlib.Core.Path.{sym, ◌∙◌}
-use native.Mathlib.Omega.{arith}
-use Rattle.base.proofs.Search.{Passed, begin, miss, found, found_none}
+use Rattle.base.proofs.Search.{Passed}
 use Rattle.templates.specs.Templates.{has_number}
 use Rattle.templates.proofs.is_used.Given as goal
 

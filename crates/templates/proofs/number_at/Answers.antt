@@ -1,7 +1,6 @@
 -- `templates::number_at` meets its contract. Assumes nothing.
 use Prim.Native.Nat.{◌+◌, ◌*◌}
 use native.Mathlib.Omega.{arith}
-use borrow.Author.Rules.{rules}
 use Rattle.tables.specs.Words.{entry_words}
 use Rattle.templates.proofs.number_at.Goals as goal
 

@@ -1,5 +1,4 @@
 -- `templates::parameters_fit` meets its contract. Assumes nothing.
-use borrow.Author.Rules.{rules}
 use Rattle.templates.proofs.Answers.{too_many, few_used}
 use Rattle.templates.proofs.parameters_fit.Goals as goal
 

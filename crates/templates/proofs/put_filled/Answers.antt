@@ -1,10 +1,6 @@
 -- `templates::put_filled` meets its contract. Assumes nothing.
-use Prim.Native.Nat.{◌-◌}
 use native.Mathlib.Omega.{arith}
-use lib.ListN.{length}
-use borrow.Author.Rules.{rules}
-use Rattle.base.proofs.Copies.{Copying, copy_begin}
-use Rattle.templates.specs.Templates.{filled}
+use Rattle.base.proofs.Copies.{copy_begin}
 use Rattle.templates.proofs.Filling.{put_more, put_end}
 use Rattle.templates.proofs.put_filled.Goals as goal
 

@@ -1,11 +1,8 @@
 -- `templates::put_filled` meets its contract. Assumes nothing.
 use Prim.Native.Nat.{◌-◌}
-use native.Mathlib.Omega.{arith}
 use lib.ListN.{length}
-use borrow.Author.Rules.{rules}
-use Rattle.base.proofs.Copies.{Copying, copy_begin}
+use Rattle.base.proofs.Copies.{Copying}
 use Rattle.templates.specs.Templates.{filled}
-use Rattle.templates.proofs.Filling.{put_more, put_end}
 use Rattle.templates.proofs.put_filled.Given as goal
 
 abbrev pub invariant-loop-j : goal.invariant-loop-j

@@ -1,6 +1,5 @@
 -- `checker::counting::begins_device` meets its contract. Assumes nothing.
 use borrow.Author.Tests.{eq-eqb, ne_eqb}
-use borrow.Author.Rules.{rules}
 use Rattle.checker.proofs.counting.begins_device.Goals as goal
 
 pub returns-then-i-eq0 : goal.returns-then-i-eq0

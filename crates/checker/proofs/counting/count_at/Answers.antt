@@ -3,7 +3,6 @@ use Rattle.logic.specs.Formulas.{formula}
 use mathlib.Core.Path.{sym, ◌∙◌}
 use native.Mathlib.Omega.{arith}
 use Rattle.checker.proofs.OwnRows.{count_begins, count_other}
-use borrow.Author.Rules.{rules}
 use Rattle.checker.proofs.counting.count_at.Goals as goal
 
 pub part_count-requires : goal.part_count-requires

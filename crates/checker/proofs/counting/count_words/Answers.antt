@@ -3,7 +3,6 @@ use mathlib.Core.Path.{refl}
 use native.Mathlib.Omega.{arith}
 use Rattle.checker.proofs.Marks.{counts_are}
 use Rattle.tables.proofs.Accepted.{few_rows}
-use borrow.Author.Rules.{rules}
 use Rattle.checker.proofs.counting.count_words.Goals as goal
 
 pub overflow_cast-result-2 : goal.overflow_cast-result-2

@@ -1,9 +1,6 @@
 -- `checker::counting::device_end` meets its contract, by the laws of proofs/OwnRows.antt. Assumes nothing.
-use Prim.Native.Nat.{ℕ, ◌+◌, ◌-◌}
 use native.Mathlib.Omega.{arith}
-use lib.Dec.{leb}
-use Rattle.base.proofs.Search.{Passed, hit, miss, none}
-use Rattle.tables.specs.Words.{row_at}
+use Rattle.base.proofs.Search.{hit, miss, none}
 use Rattle.checker.proofs.OwnRows.{is_behind, not_behind, passed}
 use Rattle.checker.proofs.counting.device_end.Goals as goal
 

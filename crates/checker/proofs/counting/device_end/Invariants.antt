@@ -1,10 +1,8 @@
 -- `checker::counting::device_end` meets its contract, by the laws of proofs/OwnRows.antt. Assumes nothing.
 use Prim.Native.Nat.{ℕ, ◌+◌, ◌-◌}
-use native.Mathlib.Omega.{arith}
 use lib.Dec.{leb}
-use Rattle.base.proofs.Search.{Passed, hit, miss, none}
+use Rattle.base.proofs.Search.{Passed}
 use Rattle.tables.specs.Words.{row_at}
-use Rattle.checker.proofs.OwnRows.{is_behind, not_behind, passed}
 use Rattle.checker.proofs.counting.device_end.Given as goal
 
 abbrev pub invariant-loop-end : goal.invariant-loop-end

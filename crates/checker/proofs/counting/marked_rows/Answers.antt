@@ -5,7 +5,6 @@ use lib.ListN.{replicate, length-replicate}
 use lib.Seq.{length-take-le}
 use Rattle.tables.specs.Tables.{row_limit}
 use Rattle.checker.proofs.Marks.{verdict_value, bytes_room, marked_count_lem}
-use borrow.Author.Rules.{rules}
 use Rattle.checker.proofs.counting.marked_rows.Goals as goal
 
 pub slice_bounds-bytes-end : goal.slice_bounds-bytes-end

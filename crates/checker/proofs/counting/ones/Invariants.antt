@@ -1,11 +1,7 @@
 -- `checker::counting::ones` meets its contract, by the laws of base/proofs/Counts.antt. Assumes nothing.
-use Prim.Native.Nat.{ℕ, ◌+◌, ◌-◌}
-use mathlib.Core.Path.{sym, subst}
-use mathlib.Core.Logic.{⊎_elim}
-use native.Mathlib.Omega.{arith}
+use Prim.Native.Nat.{◌-◌}
 use lib.ListN.{length}
-use borrow.Author.Tests.{eq-eqb, ne_eqb}
-use Rattle.base.proofs.Counts.{Counted, count_begin, count_hit, count_miss, count_end}
+use Rattle.base.proofs.Counts.{Counted}
 use Rattle.checker.proofs.Marks.{is_one}
 use Rattle.checker.proofs.counting.ones.Given as goal
 

@@ -1,7 +1,6 @@
 -- `checker::counting::part_count` meets its contract, by the laws of proofs/OwnRows.antt. Assumes nothing.
 use native.Mathlib.Omega.{arith}
 use Rattle.checker.proofs.OwnRows.{ends, own_words, part_count_lem}
-use borrow.Author.Rules.{rules}
 use Rattle.checker.proofs.counting.part_count.Goals as goal
 
 pub overflow_mul-i : goal.overflow_mul-i

@@ -1,10 +1,7 @@
 -- `checker::counting::parts_count` meets its contract, by the summing law. Assumes nothing.
-use Prim.Native.Nat.{◌-◌}
 use native.Mathlib.Omega.{arith}
-use Rattle.base.proofs.Sums.{Summed, sum_begin, sum_more, sum_end}
-use Rattle.tables.specs.Tables.{row_limit}
-use Rattle.logic.specs.Formulas.{formula}
-use Rattle.checker.specs.Report.{count_at, parts_count}
+use Rattle.base.proofs.Sums.{sum_begin, sum_more, sum_end}
+use Rattle.checker.specs.Report.{parts_count}
 use Rattle.tables.proofs.Accepted.{few_rows}
 use Rattle.checker.proofs.counting.parts_count.Goals as goal
 

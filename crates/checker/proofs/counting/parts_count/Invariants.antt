@@ -1,11 +1,9 @@
 -- `checker::counting::parts_count` meets its contract, by the summing law. Assumes nothing.
 use Prim.Native.Nat.{◌-◌}
-use native.Mathlib.Omega.{arith}
-use Rattle.base.proofs.Sums.{Summed, sum_begin, sum_more, sum_end}
+use Rattle.base.proofs.Sums.{Summed}
 use Rattle.tables.specs.Tables.{row_limit}
 use Rattle.logic.specs.Formulas.{formula}
-use Rattle.checker.specs.Report.{count_at, parts_count}
-use Rattle.tables.proofs.Accepted.{few_rows}
+use Rattle.checker.specs.Report.{count_at}
 use Rattle.checker.proofs.counting.parts_count.Given as goal
 
 abbrev pub invariant-loop-i : goal.invariant-loop-i

@@ -7,7 +7,6 @@ use Rattle.tables.specs.Answers.{and_then}
 use Rattle.logic.specs.Verdict.{verdict_answer}
 use Rattle.checker.specs.Files.{pool_of, pool_file}
 use Rattle.checker.proofs.Steps.{then_next, then_refused, files_is}
-use borrow.Author.Rules.{rules}
 use Rattle.checker.proofs.files.check_both.Goals as goal
 
 pub slice_bounds-words-end : goal.slice_bounds-words-end

@@ -5,7 +5,6 @@ use Rattle.tables.specs.declared.Answer.{Answer}
 use Rattle.checker.specs.Files.{returned}
 use Rattle.checker.specs.Loading.{largest_refusal}
 use Rattle.checker.proofs.Sizes.{returned_le}
-use borrow.Author.Rules.{rules}
 use Rattle.checker.proofs.files.check_files.Goals as goal
 
 pub number_of-requires : goal.number_of-requires

@@ -3,7 +3,6 @@ use mathlib.Core.Path.{sym}
 use lib.Seq.{length-take-le}
 use Rattle.logic.specs.Verdict.{verdict_answer}
 use Rattle.checker.proofs.Steps.{then_next, then_refused}
-use borrow.Author.Rules.{rules}
 use Rattle.checker.proofs.files.check_pool.Goals as goal
 
 pub slice_bounds-words-end : goal.slice_bounds-words-end

@@ -3,7 +3,6 @@ use native.Mathlib.Omega.{arith}
 use mathlib.Core.Path.{ap, sym}
 use Rattle.tables.specs.declared.Answer.{Answer}
 use Rattle.checker.specs.Files.{returned}
-use borrow.Author.Rules.{rules}
 use Rattle.checker.proofs.files.number_of.Goals as goal
 
 pub overflow_cast-result : goal.overflow_cast-result

@@ -5,7 +5,6 @@ use Rattle.checker.proofs.Loads.{load_short, load_refused, load_within, load_fau
 use native.Mathlib.Omega.{arith}
 use lib.Seq.{length-take-le}
 use mathlib.Core.Path.{sym}
-use borrow.Author.Rules.{rules}
 use Rattle.checker.proofs.loading.load_rule.Goals as goal
 
 pub returns-then-number-eq17 : goal.returns-then-number-eq17

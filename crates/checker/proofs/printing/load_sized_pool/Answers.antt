@@ -1,7 +1,6 @@
 -- `checker::printing::load_sized_pool` meets its contract, by the laws of proofs/Texts.antt. Assumes nothing.
 use Rattle.checker.specs.Files.{pool_file}
 use Rattle.checker.proofs.Texts.{too_long, not_long}
-use borrow.Author.Rules.{rules}
 use Rattle.checker.proofs.printing.load_sized_pool.Goals as goal
 
 pub returns-then-file-gt-FILE_LIMIT : goal.returns-then-file-gt-FILE_LIMIT

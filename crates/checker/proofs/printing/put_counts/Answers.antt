@@ -2,7 +2,6 @@
 use mathlib.Core.Path.{ap}
 use Rattle.checker.specs.Report.{counts_text}
 use Rattle.checker.proofs.Texts.{prints_same, wrote}
-use borrow.Author.Rules.{rules}
 use Rattle.checker.proofs.printing.put_counts.Goals as goal
 
 pub returns-clause-count : goal.returns-clause-count

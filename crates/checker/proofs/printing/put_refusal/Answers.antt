@@ -1,6 +1,5 @@
 -- `checker::printing::put_refusal` meets its contract, by the laws of proofs/Texts.antt. Assumes nothing.
 use Rattle.checker.proofs.Texts.{wrote}
-use borrow.Author.Rules.{rules}
 use Rattle.checker.proofs.printing.put_refusal.Goals as goal
 
 pub returns-clause-count : goal.returns-clause-count

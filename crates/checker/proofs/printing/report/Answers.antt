@@ -2,7 +2,6 @@
 use mathlib.Core.Path.{sym}
 use lib.Seq.{length-take-le}
 use Rattle.checker.proofs.Texts.{prints_same, rule_accepted, rule_place, rule_next, rule_refused}
-use borrow.Author.Rules.{rules}
 use Rattle.checker.proofs.printing.report.Goals as goal
 
 pub slice_bounds-words-end : goal.slice_bounds-words-end

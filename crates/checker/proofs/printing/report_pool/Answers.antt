@@ -3,7 +3,6 @@ use mathlib.Core.Path.{sym}
 use lib.Seq.{length-take-le}
 use Rattle.checker.specs.Report.{counts}
 use Rattle.checker.proofs.Texts.{prints_same, text_counts, text_refused, pool_accepted, pool_place}
-use borrow.Author.Rules.{rules}
 use Rattle.checker.proofs.printing.report_pool.Goals as goal
 
 pub slice_bounds-words-end : goal.slice_bounds-words-end

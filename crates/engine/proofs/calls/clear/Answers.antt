@@ -1,9 +1,7 @@
 -- `engine::calls::clear` meets its contract. Assumes nothing.
-use Prim.Native.Nat.{◌-◌, ◌≤◌}
-use mathlib.Core.Path.{◌≡◌, refl, ◌∙◌}
-use mathlib.Core.List.{◌++◌}
+use mathlib.Core.Path.{refl, ◌∙◌}
 use native.Mathlib.Omega.{arith}
-use lib.ListN.{length, drop, replicate, length-set}
+use lib.ListN.{length-set}
 use Rattle.engine.proofs.Answered.{cleared_more, cleared_all}
 use Rattle.engine.proofs.calls.clear.Goals as goal
 

@@ -1,10 +1,8 @@
 -- `engine::calls::clear` meets its contract. Assumes nothing.
 use Prim.Native.Nat.{◌-◌, ◌≤◌}
-use mathlib.Core.Path.{◌≡◌, refl, ◌∙◌}
+use mathlib.Core.Path.{◌≡◌}
 use mathlib.Core.List.{◌++◌}
-use native.Mathlib.Omega.{arith}
-use lib.ListN.{length, drop, replicate, length-set}
-use Rattle.engine.proofs.Answered.{cleared_more, cleared_all}
+use lib.ListN.{length, drop, replicate}
 use Rattle.engine.proofs.calls.clear.Given as goal
 
 abbrev pub invariant-loop-i : goal.invariant-loop-i

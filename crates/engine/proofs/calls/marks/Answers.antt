@@ -3,7 +3,6 @@ use mathlib.Core.Path.{refl, sym, ap, ◌∙◌}
 use mathlib.Core.List.{◌++◌}
 use native.Mathlib.Omega.{arith}
 use lib.ListN.{drop, replicate}
-use borrow.Author.Rules.{rules}
 use Rattle.tables.specs.Rules.{check_rule}
 use Rattle.engine.proofs.Wholes.{nothing_whole}
 use Rattle.engine.proofs.Answered.{table_ok, rule_ready, marks_done, marks_refused, marks_short}

@@ -1,9 +1,7 @@
 -- `engine::calls::set_verdicts` meets its contract. Assumes nothing.
-use mathlib.Core.Path.{refl}
 use mathlib.Core.List.{[]}
 use Rattle.engine.proofs.Answered.{verdicts_refused, set_ok, verdicts_short, verdicts_done}
 use Rattle.engine.proofs.Stepping.{few, ones_asked}
-use borrow.Author.Rules.{rules}
 use Rattle.engine.proofs.calls.set_verdicts.Goals as goal
 
 pub returns-then-out-counts-clause-value : goal.returns-then-out-counts-clause-value

@@ -1,5 +1,4 @@
 -- `engine::calls::then_table` meets its contract. Assumes nothing.
-use borrow.Author.Rules.{rules}
 use Rattle.engine.proofs.Answered.{next_answer, refused_answer}
 use Rattle.engine.proofs.calls.then_table.Goals as goal
 

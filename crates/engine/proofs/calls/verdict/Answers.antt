@@ -1,7 +1,6 @@
 -- `engine::calls::verdict` meets its contract. Assumes nothing.
 use mathlib.Core.Path.{refl, sym}
 use Rattle.tables.specs.Rules.{check_rule}
-use borrow.Author.Rules.{rules}
 use Rattle.engine.proofs.Answered.{table_ok, rule_ready, verdict_done, verdict_refused}
 use Rattle.engine.proofs.calls.verdict.Goals as goal
 

@@ -1,14 +1,12 @@
 -- `engine::certain::sure` and `engine::certain::scan`, which call each other, meet their contracts. Assumes nothing.
 use mathlib.Core.Bool.{not}
 use mathlib.Core.Path.{ap}
-use Prim.Native.Nat.{ℕ, ◌<◌, ◌+◌, ◌-◌, ◌/◌}
-use borrow.Author.Rules.{rules}
+use Prim.Native.Nat.{◌+◌, ◌-◌, ◌/◌}
 use native.Mathlib.Omega.{arith}
 use Rattle.tables.specs.Words.{entry_count, row_count}
-use Rattle.engine.proofs.Falls.{entry_measure, rows_measure, below, falls_child, falls_rows, falls_body, falls_part}
+use Rattle.engine.proofs.Falls.{below, falls_child, falls_rows, falls_body, falls_part}
 use Rattle.engine.proofs.Steps as steps
 use Rattle.engine.proofs.Settled as settled
-use Prim.Native.Nat.{ℕ, ◌<◌}
 use borrow.Author.Tests.{not-true, not-false}
 use Rattle.engine.proofs.certain.+scan_sure.Goals as goal
 
@@ -21,12 +19,11 @@ scan-next_ranged-first-requires-clause-placed t c =
     c.requires.known_rows.ready.ready.placed
 
 pub scan-next_ranged-first-requires-clause-b_le_nesting_limit : goal.scan-next_ranged-first-requires-clause-b_le_nesting_limit
-scan-next_ranged-first-requires-clause-b_le_nesting_limit t c =
-    (
-        steps.over_limit c.args.rule.now c.args.pool.now c.args.b c.args.entry
-            c.args.row c.args.rows c.requires.known_rows.ready c.entry_at-e.result c.entry_at-e.ensures,
-        c.requires.known_rows.ready.place,
-      )
+scan-next_ranged-first-requires-clause-b_le_nesting_limit t c = (
+  steps.over_limit c.args.rule.now c.args.pool.now c.args.b c.args.entry
+      c.args.row c.args.rows c.requires.known_rows.ready c.entry_at-e.result c.entry_at-e.ensures,
+  c.requires.known_rows.ready.place,
+)
 
 pub scan-overflow_add-left : goal.scan-overflow_add-left
 scan-overflow_add-left t c =
@@ -50,34 +47,33 @@ scan-returns-then-left-eq0 t c =
     c.if-left-eq0.true
 
 pub scan-scan-known-requires : goal.scan-scan-known-requires
-scan-scan-known-requires t c =
-    (
-      below c.decreases (falls_part (entry_count c.args.rule.now) (row_count c.args.pool.now) c.args.entry 0 ((c.args.row
-          + c.args.rows - c.next_ranged-first.result) / 2) c.args.rows (omega (
-            arith,
-            (steps.next_place c.args.rule.now c.args.pool.now c.args.b c.args.entry c.args.row c.args.rows c.requires.known_rows.ready c.entry_at-e.result
-                c.entry_at-e.ensures c.next_ranged-first.result c.next_ranged-first.ensures).0,
-            (steps.next_place c.args.rule.now c.args.pool.now
-                c.args.b c.args.entry c.args.row c.args.rows c.requires.known_rows.ready c.entry_at-e.result c.entry_at-e.ensures
-                c.next_ranged-first.result c.next_ranged-first.ensures).1,
-            c.requires.known_rows.ready.place,
-            c.if-left-gt1.true,
-          ))),
-      (
-        settled.known_part c.args.rule.now
-            c.args.pool.now c.args.b c.args.entry c.args.row c.args.rows c.requires.known_rows c.next_ranged-first.result
-            ((c.args.row + c.args.rows - c.next_ranged-first.result) / 2) (omega (
-              arith,
-              (steps.next_place c.args.rule.now c.args.pool.now c.args.b c.args.entry c.args.row c.args.rows c.requires.known_rows.ready c.entry_at-e.result
-                  c.entry_at-e.ensures c.next_ranged-first.result c.next_ranged-first.ensures).0,
-              (steps.next_place c.args.rule.now c.args.pool.now
-                  c.args.b c.args.entry c.args.row c.args.rows c.requires.known_rows.ready c.entry_at-e.result c.entry_at-e.ensures
-                  c.next_ranged-first.result c.next_ranged-first.ensures).1,
-              c.requires.known_rows.ready.place,
-            )),
-        c.requires.runs,
-      ),
-    )
+scan-scan-known-requires t c = (
+  below c.decreases (falls_part (entry_count c.args.rule.now) (row_count c.args.pool.now) c.args.entry 0 ((c.args.row
+      + c.args.rows - c.next_ranged-first.result) / 2) c.args.rows (omega (
+        arith,
+        (steps.next_place c.args.rule.now c.args.pool.now c.args.b c.args.entry c.args.row c.args.rows c.requires.known_rows.ready c.entry_at-e.result
+            c.entry_at-e.ensures c.next_ranged-first.result c.next_ranged-first.ensures).0,
+        (steps.next_place c.args.rule.now c.args.pool.now
+            c.args.b c.args.entry c.args.row c.args.rows c.requires.known_rows.ready c.entry_at-e.result c.entry_at-e.ensures
+            c.next_ranged-first.result c.next_ranged-first.ensures).1,
+        c.requires.known_rows.ready.place,
+        c.if-left-gt1.true,
+      ))),
+  (
+    settled.known_part c.args.rule.now
+        c.args.pool.now c.args.b c.args.entry c.args.row c.args.rows c.requires.known_rows c.next_ranged-first.result
+        ((c.args.row + c.args.rows - c.next_ranged-first.result) / 2) (omega (
+          arith,
+          (steps.next_place c.args.rule.now c.args.pool.now c.args.b c.args.entry c.args.row c.args.rows c.requires.known_rows.ready c.entry_at-e.result
+              c.entry_at-e.ensures c.next_ranged-first.result c.next_ranged-first.ensures).0,
+          (steps.next_place c.args.rule.now c.args.pool.now
+              c.args.b c.args.entry c.args.row c.args.rows c.requires.known_rows.ready c.entry_at-e.result c.entry_at-e.ensures
+              c.next_ranged-first.result c.next_ranged-first.ensures).1,
+          c.requires.known_rows.ready.place,
+        )),
+    c.requires.runs,
+  ),
+)
 
 pub scan-overflow_add-first : goal.scan-overflow_add-first
 scan-overflow_add-first t c =
@@ -102,32 +98,31 @@ scan-overflow_sub-left-then-known-all t c =
     )
 
 pub scan-scan-requires : goal.scan-scan-requires
-scan-scan-requires t c =
-    (
-      below c.decreases (falls_part (entry_count c.args.rule.now) (row_count c.args.pool.now) c.args.entry 0 ((c.args.row
-          + c.args.rows - c.next_ranged-first.result) - ((c.args.row + c.args.rows - c.next_ranged-first.result) / 2)) c.args.rows (omega (
-            arith,
-            (steps.next_place c.args.rule.now c.args.pool.now c.args.b c.args.entry c.args.row c.args.rows
-                c.requires.known_rows.ready c.entry_at-e.result c.entry_at-e.ensures c.next_ranged-first.result c.next_ranged-first.ensures).0,
-            (steps.next_place c.args.rule.now c.args.pool.now c.args.b c.args.entry c.args.row c.args.rows c.requires.known_rows.ready
-                c.entry_at-e.result c.entry_at-e.ensures c.next_ranged-first.result c.next_ranged-first.ensures).1,
-            c.requires.known_rows.ready.place,
-            c.if-left-gt1.true,
-          ))),
-      (
-        settled.known_part c.args.rule.now c.args.pool.now c.args.b c.args.entry c.args.row c.args.rows
-            c.requires.known_rows (c.next_ranged-first.result + ((c.args.row + c.args.rows - c.next_ranged-first.result) / 2)) ((c.args.row + c.args.rows -
-            c.next_ranged-first.result) - ((c.args.row + c.args.rows - c.next_ranged-first.result) / 2)) (omega (
-              arith,
-              (steps.next_place c.args.rule.now c.args.pool.now c.args.b c.args.entry c.args.row c.args.rows c.requires.known_rows.ready
-                  c.entry_at-e.result c.entry_at-e.ensures c.next_ranged-first.result c.next_ranged-first.ensures).0,
-              (steps.next_place c.args.rule.now c.args.pool.now c.args.b c.args.entry c.args.row c.args.rows c.requires.known_rows.ready c.entry_at-e.result
-                  c.entry_at-e.ensures c.next_ranged-first.result c.next_ranged-first.ensures).1,
-              c.requires.known_rows.ready.place,
-            )),
-        c.requires.runs,
-      ),
-    )
+scan-scan-requires t c = (
+  below c.decreases (falls_part (entry_count c.args.rule.now) (row_count c.args.pool.now) c.args.entry 0 ((c.args.row
+      + c.args.rows - c.next_ranged-first.result) - ((c.args.row + c.args.rows - c.next_ranged-first.result) / 2)) c.args.rows (omega (
+        arith,
+        (steps.next_place c.args.rule.now c.args.pool.now c.args.b c.args.entry c.args.row c.args.rows
+            c.requires.known_rows.ready c.entry_at-e.result c.entry_at-e.ensures c.next_ranged-first.result c.next_ranged-first.ensures).0,
+        (steps.next_place c.args.rule.now c.args.pool.now c.args.b c.args.entry c.args.row c.args.rows c.requires.known_rows.ready
+            c.entry_at-e.result c.entry_at-e.ensures c.next_ranged-first.result c.next_ranged-first.ensures).1,
+        c.requires.known_rows.ready.place,
+        c.if-left-gt1.true,
+      ))),
+  (
+    settled.known_part c.args.rule.now c.args.pool.now c.args.b c.args.entry c.args.row c.args.rows
+        c.requires.known_rows (c.next_ranged-first.result + ((c.args.row + c.args.rows - c.next_ranged-first.result) / 2)) ((c.args.row + c.args.rows -
+        c.next_ranged-first.result) - ((c.args.row + c.args.rows - c.next_ranged-first.result) / 2)) (omega (
+          arith,
+          (steps.next_place c.args.rule.now c.args.pool.now c.args.b c.args.entry c.args.row c.args.rows c.requires.known_rows.ready
+              c.entry_at-e.result c.entry_at-e.ensures c.next_ranged-first.result c.next_ranged-first.ensures).0,
+          (steps.next_place c.args.rule.now c.args.pool.now c.args.b c.args.entry c.args.row c.args.rows c.requires.known_rows.ready c.entry_at-e.result
+              c.entry_at-e.ensures c.next_ranged-first.result c.next_ranged-first.ensures).1,
+          c.requires.known_rows.ready.place,
+        )),
+    c.requires.runs,
+  ),
+)
 
 pub scan-returns-then-known-all : goal.scan-returns-then-known-all
 scan-returns-then-known-all t c =
@@ -295,7 +290,7 @@ sure-reads_ahead-requires-clause-placed t c =
 pub sure-reads_ahead-requires-clause-b_le_nesting_limit : goal.sure-reads_ahead-requires-clause-b_le_nesting_limit
 sure-reads_ahead-requires-clause-b_le_nesting_limit t c =
     steps.run_limit c.args.rule.now c.args.pool.now c.args.b c.args.entry c.requires.ready
-            c.entry_at-e.result c.entry_at-e.ensures c.if-e-lt5.false c.if-e-lt7.true
+    c.entry_at-e.result c.entry_at-e.ensures c.if-e-lt5.false c.if-e-lt7.true
 
 pub sure-reads_ahead-requires-clause-runs : goal.sure-reads_ahead-requires-clause-runs
 sure-reads_ahead-requires-clause-runs t c =
@@ -308,25 +303,24 @@ sure-run_of-r-requires-clause-placed t c =
 pub sure-run_of-r-requires-clause-b_le_nesting_limit : goal.sure-run_of-r-requires-clause-b_le_nesting_limit
 sure-run_of-r-requires-clause-b_le_nesting_limit t c =
     steps.run_limit c.args.rule.now c.args.pool.now c.args.b c.args.entry c.requires.ready
-            c.entry_at-e.result c.entry_at-e.ensures c.if-e-lt5.false c.if-e-lt7.true
+    c.entry_at-e.result c.entry_at-e.ensures c.if-e-lt5.false c.if-e-lt7.true
 
 pub sure-run_of-r-requires-clause-runs : goal.sure-run_of-r-requires-clause-runs
 sure-run_of-r-requires-clause-runs t c =
     c.requires.runs
 
 pub sure-scan-requires : goal.sure-scan-requires
-sure-scan-requires t c =
-    (
-      below c.decreases (falls_rows (entry_count c.args.rule.now) (row_count c.args.pool.now) c.args.entry 0
-          c.run_of-r.result.rows c.requires.ready.inside (omega (arith, c.run_of-r.ensures.place))),
-      (
-        (settled.known_rows c.args.rule.now
-            c.args.pool.now c.args.b c.args.entry c.run_of-r.result.start c.run_of-r.result.rows (steps.rows_ready c.args.rule.now c.args.pool.now c.args.b c.args.entry c.requires.ready c.entry_at-e.result c.entry_at-e.ensures
-            c.if-e-lt5.false c.if-e-lt7.true c.run_of-r.result.start c.run_of-r.result.rows c.run_of-r.ensures.place) c.entry_at-e.result
-            c.entry_at-e.ensures _ c.reads_ahead.ensures c.if-reads_ahead.true),
-        c.requires.runs,
-      ),
-    )
+sure-scan-requires t c = (
+  below c.decreases (falls_rows (entry_count c.args.rule.now) (row_count c.args.pool.now) c.args.entry 0
+      c.run_of-r.result.rows c.requires.ready.inside (omega (arith, c.run_of-r.ensures.place))),
+  (
+    (settled.known_rows c.args.rule.now
+        c.args.pool.now c.args.b c.args.entry c.run_of-r.result.start c.run_of-r.result.rows (steps.rows_ready c.args.rule.now c.args.pool.now c.args.b c.args.entry c.requires.ready c.entry_at-e.result c.entry_at-e.ensures
+        c.if-e-lt5.false c.if-e-lt7.true c.run_of-r.result.start c.run_of-r.result.rows c.run_of-r.ensures.place) c.entry_at-e.result
+        c.entry_at-e.ensures _ c.reads_ahead.ensures c.if-reads_ahead.true),
+    c.requires.runs,
+  ),
+)
 
 pub sure-returns-then-reads_ahead : goal.sure-returns-then-reads_ahead
 sure-returns-then-reads_ahead t c =
@@ -370,12 +364,12 @@ sure-sure_compared-requires-clause-placed t c =
 pub sure-sure_compared-requires-clause-a_lt_nesting_limit : goal.sure-sure_compared-requires-clause-a_lt_nesting_limit
 sure-sure_compared-requires-clause-a_lt_nesting_limit t c =
     steps.left_limit c.args.rule.now c.args.pool.now c.args.b c.args.entry c.requires.ready
-            c.entry_at-e.result c.entry_at-e.ensures c.if-e-lt7.false
+    c.entry_at-e.result c.entry_at-e.ensures c.if-e-lt7.false
 
 pub sure-sure_compared-requires-clause-c_lt_nesting_limit : goal.sure-sure_compared-requires-clause-c_lt_nesting_limit
 sure-sure_compared-requires-clause-c_lt_nesting_limit t c =
     steps.right_limit c.args.rule.now c.args.pool.now c.args.b
-            c.args.entry c.requires.ready c.entry_at-e.result c.entry_at-e.ensures c.if-e-lt7.false
+    c.args.entry c.requires.ready c.entry_at-e.result c.entry_at-e.ensures c.if-e-lt7.false
 
 pub sure-returns : goal.sure-returns
 sure-returns t c =

@@ -1,7 +1,5 @@
 -- `engine::certain::sure` and `engine::certain::scan`, which call each other, meet their contracts. Assumes nothing.
-use Prim.Native.Nat.{ℕ, ◌<◌, ◌+◌, ◌-◌, ◌/◌}
-use Rattle.engine.proofs.Falls.{entry_measure, rows_measure, below, falls_child, falls_rows, falls_body, falls_part}
-use Prim.Native.Nat.{ℕ, ◌<◌}
+use Rattle.engine.proofs.Falls.{entry_measure, rows_measure}
 use Rattle.engine.proofs.certain.+scan_sure.Given as goal
 
 abbrev pub decreases-scan : goal.decreases-scan

@@ -2,7 +2,6 @@
 use mathlib.Core.Path.{ap}
 use mathlib.Core.Bool.{not}
 use Rattle.engine.proofs.Settled.{steady_not, steady_unasked, steady_roots, steady_children}
-use borrow.Author.Rules.{rules}
 use Rattle.engine.proofs.certain.is_steady.Goals as goal
 
 pub returns-then-not-same : goal.returns-then-not-same

@@ -1,7 +1,6 @@
 -- `engine::certain::is_wide` meets its contract. Assumes nothing.
 use native.Mathlib.Omega.{arith}
 use Prim.Native.Nat.{◌-◌}
-use borrow.Author.Rules.{rules}
 use Rattle.engine.proofs.certain.is_wide.Goals as goal
 
 pub is_short-requires-clause-place_nonzero : goal.is_short-requires-clause-place_nonzero

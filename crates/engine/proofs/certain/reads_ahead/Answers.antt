@@ -2,7 +2,6 @@
 use native.Mathlib.Omega.{arith}
 use Prim.Native.Nat.{◌-◌}
 use Rattle.engine.proofs.Settled.{parent_unknown, parent_known}
-use borrow.Author.Rules.{rules}
 use Rattle.engine.proofs.certain.reads_ahead.Goals as goal
 
 pub returns-then-under-eq0 : goal.returns-then-under-eq0

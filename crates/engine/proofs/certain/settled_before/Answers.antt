@@ -2,7 +2,6 @@
 use native.Mathlib.Omega.{arith}
 use Rattle.engine.proofs.Steps.{bound_ready, over_limit}
 use Rattle.engine.proofs.Settled.{settles_not, settles_all}
-use borrow.Author.Rules.{rules}
 use Rattle.engine.proofs.certain.settled_before.Goals as goal
 
 pub is_wide-requires-clause-placed : goal.is_wide-requires-clause-placed

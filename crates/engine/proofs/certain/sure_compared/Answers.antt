@@ -1,6 +1,5 @@
 -- `engine::certain::sure_compared` meets its contract. Assumes nothing.
 use Rattle.engine.proofs.Settled.{compared_unknown, compared_constant, compared_variable}
-use borrow.Author.Rules.{rules}
 use Rattle.engine.proofs.certain.sure_compared.Goals as goal
 
 pub returns-then-left-eq0 : goal.returns-then-left-eq0

@@ -1,7 +1,6 @@
 -- `engine::children::children_run` meets its contract. Assumes nothing.
 use Prim.Native.Nat.{◌-◌}
 use native.Mathlib.Omega.{arith}
-use borrow.Author.Rules.{rules}
 use Rattle.engine.proofs.children.children_run.Goals as goal
 
 pub overflow_cast-start : goal.overflow_cast-start

@@ -1,10 +1,7 @@
 -- `engine::children::find_runs` meets its contract. Assumes nothing.
-use Prim.Native.Nat.{◌-◌, ◌<◌, ◌≤◌}
-use mathlib.Core.Path.{◌≡◌, refl, subst, sym, ◌∙◌}
+use mathlib.Core.Path.{refl, subst, sym, ◌∙◌}
 use native.Mathlib.Omega.{arith}
 use borrow.Author.Rules.{rules}
-use lib.ListN.{length}
-use Rattle.tables.specs.Words.{row_count}
 use Rattle.tables.proofs.Accepted.{few_rows}
 use Rattle.engine.specs.Runs.{RunsWithin}
 use Rattle.engine.proofs.Noting.{noted_none, none_sized}
@@ -18,13 +15,13 @@ slice_bounds-note_row-end c = sym c.loop-i.invariant.2
 
 pub note_row-requires-clause-pool_value : goal.note_row-requires-clause-pool_value
 note_row-requires-clause-pool_value c = (
-        c.requires.pool_value,
-        omega (
-          arith,
-          c.loop-i-test.true,
-          c.row_count-n.ensures,
-        ),
-      )
+  c.requires.pool_value,
+  omega (
+    arith,
+    c.loop-i-test.true,
+    c.row_count-n.ensures,
+  ),
+)
 
 pub note_row-requires-clause-latest_len : goal.note_row-requires-clause-latest_len
 note_row-requires-clause-latest_len c = c.loop-i.invariant.2
@@ -34,12 +31,12 @@ note_row-requires-clause-runs_within c = c.loop-i.invariant.0
 
 pub overflow_cast-latest : goal.overflow_cast-latest
 overflow_cast-latest c = omega (
-      arith,
-      c.loop-i-test.true,
-      c.row_count-n.ensures,
-      few_rows c.args.pool.now
-          c.requires.pool_value,
-    )
+  arith,
+  c.loop-i-test.true,
+  c.row_count-n.ensures,
+  few_rows c.args.pool.now
+      c.requires.pool_value,
+)
 
 pub row_at-requires : goal.row_at-requires
 row_at-requires c = omega (arith, c.loop-i-test.true, c.row_count-n.ensures)
@@ -64,8 +61,8 @@ shape_of-ends c = c.loop-i.invariant.0.sized_ends ∙ sym (none_sized _ c.requir
 
 pub returns : goal.returns
 returns c = subst (RunsWithin c.args.pool.now _ _) (omega (
-      arith,
-      c.loop-i.invariant.1,
-      c.loop-i-test.false,
-      c.row_count-n.ensures,
-    )) c.loop-i.invariant.0
+  arith,
+  c.loop-i.invariant.1,
+  c.loop-i-test.false,
+  c.row_count-n.ensures,
+)) c.loop-i.invariant.0

@@ -1,13 +1,8 @@
 -- `engine::children::find_runs` meets its contract. Assumes nothing.
-use Prim.Native.Nat.{◌-◌, ◌<◌, ◌≤◌}
-use mathlib.Core.Path.{◌≡◌, refl, subst, sym, ◌∙◌}
-use native.Mathlib.Omega.{arith}
-use borrow.Author.Rules.{rules}
+use Prim.Native.Nat.{◌-◌, ◌≤◌}
+use mathlib.Core.Path.{◌≡◌}
 use lib.ListN.{length}
-use Rattle.tables.specs.Words.{row_count}
-use Rattle.tables.proofs.Accepted.{few_rows}
 use Rattle.engine.specs.Runs.{RunsWithin}
-use Rattle.engine.proofs.Noting.{noted_none, none_sized}
 use Rattle.engine.proofs.children.find_runs.Given as goal
 
 abbrev pub invariant-loop-i : goal.invariant-loop-i

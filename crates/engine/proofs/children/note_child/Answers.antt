@@ -1,6 +1,5 @@
 -- `engine::children::note_child` meets its contract. Assumes nothing.
 use mathlib.Core.Path.{refl}
-use borrow.Author.Rules.{rules}
 use Rattle.engine.proofs.children.note_child.Goals as goal
 
 pub returns-clause-starts_after : goal.returns-clause-starts_after

@@ -3,7 +3,6 @@ use mathlib.Core.Path.{sym, ap, ◌∙◌}
 use borrow.Author.Tests.{eq-eqb, ne_eqb}
 use Rattle.tables.specs.Tables.{root}
 use Rattle.engine.proofs.Noting.{noted_root, noted_child}
-use borrow.Author.Rules.{rules}
 use Rattle.engine.proofs.children.note_row.Goals as goal
 
 pub returns-then-r-eq0 : goal.returns-then-r-eq0
@@ -17,7 +16,7 @@ guessed_parent-parent-requires-clause-pool_value c = c.requires.pool_value
 
 pub guessed_parent-parent-requires-clause-row_value : goal.guessed_parent-parent-requires-clause-row_value
 guessed_parent-parent-requires-clause-row_value c = ap root (sym c.row_at-r.ensures) ∙ ne_eqb
-          _ _ c.if-r-eq0.false
+    _ _ c.if-r-eq0.false
 
 pub returns : goal.returns
 returns c = noted_child c.args.pool.now

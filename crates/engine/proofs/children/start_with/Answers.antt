@@ -1,7 +1,6 @@
 -- `engine::children::start_with` meets its contract. Assumes nothing.
 use mathlib.Core.Path.{refl}
 use borrow.Author.Tests.{eq-eqb, ne_eqb}
-use borrow.Author.Rules.{rules}
 use Rattle.engine.proofs.children.start_with.Goals as goal
 
 pub returns-then-end-eq0 : goal.returns-then-end-eq0

@@ -2,7 +2,6 @@
 use mathlib.Core.Path.{ap, ◌∙◌}
 use mathlib.Core.Bool.{not}
 use Rattle.engine.proofs.Leaves.{compare_equal, compare_less, compare_at_most}
-use borrow.Author.Rules.{rules}
 use Rattle.engine.proofs.comparisons.compare_values.Goals as goal
 
 pub returns-then-kind-eq7 : goal.returns-then-kind-eq7

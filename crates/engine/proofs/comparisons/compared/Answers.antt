@@ -4,7 +4,6 @@ use mathlib.Core.Path.{ap₂, ◌∙◌}
 use Rattle.logic.specs.Verdict.{compare}
 use Rattle.engine.specs.Ready.{comparison_of}
 use Rattle.engine.proofs.Leaves.{value_bound}
-use borrow.Author.Rules.{rules}
 use Rattle.engine.proofs.comparisons.compared.Goals as goal
 
 pub value_at-left-requires : goal.value_at-left-requires

@@ -2,7 +2,6 @@
 use native.Mathlib.Omega.{arith}
 use Rattle.engine.proofs.Leaves.{operand_variable, operand_constant}
 use Rattle.engine.specs.Ready.{meant}
-use borrow.Author.Rules.{rules}
 use Rattle.engine.proofs.comparisons.operand.Goals as goal
 
 pub place_of-requires : goal.place_of-requires

@@ -1,12 +1,10 @@
 -- `engine::evaluator::holds` and `engine::evaluator::walk`, which call each other, meet their contracts. Assumes nothing.
-use Prim.Native.Nat.{ℕ, ◌<◌, ◌+◌, ◌-◌, ◌/◌}
-use borrow.Author.Rules.{rules}
+use Prim.Native.Nat.{◌+◌, ◌-◌, ◌/◌}
 use native.Mathlib.Omega.{arith}
 use Rattle.tables.specs.Words.{entry_count, row_count}
-use Rattle.engine.proofs.Falls.{entry_measure, rows_measure, below, falls_child, falls_rows, falls_body, falls_part}
+use Rattle.engine.proofs.Falls.{below, falls_child, falls_rows, falls_body, falls_part}
 use Rattle.engine.proofs.Steps as steps
 use borrow.Author.Tests.{not-true, not-false}
-use Prim.Native.Nat.{ℕ, ◌<◌}
 use Rattle.engine.proofs.evaluator.+holds_walk.Goals as goal
 
 pub holds-entry_at-e-requires : goal.holds-entry_at-e-requires
@@ -70,7 +68,7 @@ holds-returns-then-e-lt5 t c =
 pub holds-settled_before-requires-clause-ready_rows : goal.holds-settled_before-requires-clause-ready_rows
 holds-settled_before-requires-clause-ready_rows t c =
     steps.rows_ready c.args.rule.now c.args.pool.now c.args.b c.args.entry c.requires.ready c.entry_at-e.result
-          c.entry_at-e.ensures c.if-e-lt5.false c.if-e-lt7.true 0 0 (omega arith)
+    c.entry_at-e.ensures c.if-e-lt5.false c.if-e-lt7.true 0 0 (omega arith)
 
 pub holds-settled_before-requires-clause-runs : goal.holds-settled_before-requires-clause-runs
 holds-settled_before-requires-clause-runs t c =
@@ -88,23 +86,22 @@ holds-run_of-r-requires-clause-placed t c =
 pub holds-run_of-r-requires-clause-b_le_nesting_limit : goal.holds-run_of-r-requires-clause-b_le_nesting_limit
 holds-run_of-r-requires-clause-b_le_nesting_limit t c =
     steps.run_limit c.args.rule.now c.args.pool.now c.args.b c.args.entry c.requires.ready
-            c.entry_at-e.result c.entry_at-e.ensures c.if-e-lt5.false c.if-e-lt7.true
+    c.entry_at-e.result c.entry_at-e.ensures c.if-e-lt5.false c.if-e-lt7.true
 
 pub holds-run_of-r-requires-clause-runs : goal.holds-run_of-r-requires-clause-runs
 holds-run_of-r-requires-clause-runs t c =
     c.requires.runs
 
 pub holds-walk-requires : goal.holds-walk-requires
-holds-walk-requires t c =
-    (
-      below c.decreases (falls_rows (entry_count c.args.rule.now) (row_count c.args.pool.now) c.args.entry 0
-          c.run_of-r.result.rows c.requires.ready.inside (omega (arith, c.run_of-r.ensures.place))),
-      (
-        (steps.rows_ready c.args.rule.now c.args.pool.now c.args.b c.args.entry c.requires.ready c.entry_at-e.result c.entry_at-e.ensures c.if-e-lt5.false c.if-e-lt7.true
-            c.run_of-r.result.start c.run_of-r.result.rows c.run_of-r.ensures.place),
-        c.requires.runs,
-      ),
-    )
+holds-walk-requires t c = (
+  below c.decreases (falls_rows (entry_count c.args.rule.now) (row_count c.args.pool.now) c.args.entry 0
+      c.run_of-r.result.rows c.requires.ready.inside (omega (arith, c.run_of-r.ensures.place))),
+  (
+    (steps.rows_ready c.args.rule.now c.args.pool.now c.args.b c.args.entry c.requires.ready c.entry_at-e.result c.entry_at-e.ensures c.if-e-lt5.false c.if-e-lt7.true
+        c.run_of-r.result.start c.run_of-r.result.rows c.run_of-r.ensures.place),
+    c.requires.runs,
+  ),
+)
 
 pub holds-returns-then-e-lt7 : goal.holds-returns-then-e-lt7
 holds-returns-then-e-lt7 t c =
@@ -122,12 +119,12 @@ holds-compared-requires-clause-placed t c =
 pub holds-compared-requires-clause-a_lt_nesting_limit : goal.holds-compared-requires-clause-a_lt_nesting_limit
 holds-compared-requires-clause-a_lt_nesting_limit t c =
     steps.left_limit c.args.rule.now c.args.pool.now c.args.b c.args.entry c.requires.ready
-            c.entry_at-e.result c.entry_at-e.ensures c.if-e-lt7.false
+    c.entry_at-e.result c.entry_at-e.ensures c.if-e-lt7.false
 
 pub holds-compared-requires-clause-c_lt_nesting_limit : goal.holds-compared-requires-clause-c_lt_nesting_limit
 holds-compared-requires-clause-c_lt_nesting_limit t c =
     steps.right_limit c.args.rule.now c.args.pool.now c.args.b
-            c.args.entry c.requires.ready c.entry_at-e.result c.entry_at-e.ensures c.if-e-lt7.false
+    c.args.entry c.requires.ready c.entry_at-e.result c.entry_at-e.ensures c.if-e-lt7.false
 
 pub holds-returns : goal.holds-returns
 holds-returns t c =
@@ -143,12 +140,11 @@ walk-next_ranged-first-requires-clause-placed t c =
     c.requires.ready_rows.ready.placed
 
 pub walk-next_ranged-first-requires-clause-b_le_nesting_limit : goal.walk-next_ranged-first-requires-clause-b_le_nesting_limit
-walk-next_ranged-first-requires-clause-b_le_nesting_limit t c =
-    (
-        steps.over_limit c.args.rule.now c.args.pool.now c.args.b c.args.entry
-            c.args.row c.args.rows c.requires.ready_rows c.entry_at-e.result c.entry_at-e.ensures,
-        c.requires.ready_rows.place,
-      )
+walk-next_ranged-first-requires-clause-b_le_nesting_limit t c = (
+  steps.over_limit c.args.rule.now c.args.pool.now c.args.b c.args.entry
+      c.args.row c.args.rows c.requires.ready_rows c.entry_at-e.result c.entry_at-e.ensures,
+  c.requires.ready_rows.place,
+)
 
 pub walk-overflow_add-end : goal.walk-overflow_add-end
 walk-overflow_add-end t c =
@@ -239,35 +235,34 @@ walk-overflow_add-first-2 t c =
     )
 
 pub walk-walk-near-requires : goal.walk-walk-near-requires
-walk-walk-near-requires t c =
-    (
-      below c.decreases (falls_part (entry_count c.args.rule.now) (row_count c.args.pool.now) c.args.entry 0 ((c.args.row
-          + c.args.rows - c.next_ranged-first.result - 1) / 2) c.args.rows (omega (
-            arith,
-            (steps.next_place c.args.rule.now c.args.pool.now c.args.b c.args.entry c.args.row c.args.rows c.requires.ready_rows c.entry_at-e.result c.entry_at-e.ensures
-                c.next_ranged-first.result c.next_ranged-first.ensures).0,
-            (steps.next_place c.args.rule.now c.args.pool.now c.args.b
-                c.args.entry c.args.row c.args.rows c.requires.ready_rows c.entry_at-e.result c.entry_at-e.ensures c.next_ranged-first.result
-                c.next_ranged-first.ensures).1,
-            c.requires.ready_rows.place,
-            c.if-first-end.false,
-          ))),
-      (
-        steps.part_ready c.args.rule.now c.args.pool.now
-            c.args.b c.args.entry c.args.row c.args.rows c.requires.ready_rows (c.next_ranged-first.result + 1) ((c.args.row + c.args.rows
-            - c.next_ranged-first.result - 1) / 2) (omega (
-              arith,
-              (steps.next_place c.args.rule.now c.args.pool.now c.args.b
-                  c.args.entry c.args.row c.args.rows c.requires.ready_rows c.entry_at-e.result c.entry_at-e.ensures c.next_ranged-first.result
-                  c.next_ranged-first.ensures).0,
-              (steps.next_place c.args.rule.now c.args.pool.now c.args.b c.args.entry c.args.row
-                  c.args.rows c.requires.ready_rows c.entry_at-e.result c.entry_at-e.ensures c.next_ranged-first.result c.next_ranged-first.ensures).1,
-              c.requires.ready_rows.place,
-              c.if-first-end.false,
-            )),
-        c.requires.runs,
-      ),
-    )
+walk-walk-near-requires t c = (
+  below c.decreases (falls_part (entry_count c.args.rule.now) (row_count c.args.pool.now) c.args.entry 0 ((c.args.row
+      + c.args.rows - c.next_ranged-first.result - 1) / 2) c.args.rows (omega (
+        arith,
+        (steps.next_place c.args.rule.now c.args.pool.now c.args.b c.args.entry c.args.row c.args.rows c.requires.ready_rows c.entry_at-e.result c.entry_at-e.ensures
+            c.next_ranged-first.result c.next_ranged-first.ensures).0,
+        (steps.next_place c.args.rule.now c.args.pool.now c.args.b
+            c.args.entry c.args.row c.args.rows c.requires.ready_rows c.entry_at-e.result c.entry_at-e.ensures c.next_ranged-first.result
+            c.next_ranged-first.ensures).1,
+        c.requires.ready_rows.place,
+        c.if-first-end.false,
+      ))),
+  (
+    steps.part_ready c.args.rule.now c.args.pool.now
+        c.args.b c.args.entry c.args.row c.args.rows c.requires.ready_rows (c.next_ranged-first.result + 1) ((c.args.row + c.args.rows
+        - c.next_ranged-first.result - 1) / 2) (omega (
+          arith,
+          (steps.next_place c.args.rule.now c.args.pool.now c.args.b
+              c.args.entry c.args.row c.args.rows c.requires.ready_rows c.entry_at-e.result c.entry_at-e.ensures c.next_ranged-first.result
+              c.next_ranged-first.ensures).0,
+          (steps.next_place c.args.rule.now c.args.pool.now c.args.b c.args.entry c.args.row
+              c.args.rows c.requires.ready_rows c.entry_at-e.result c.entry_at-e.ensures c.next_ranged-first.result c.next_ranged-first.ensures).1,
+          c.requires.ready_rows.place,
+          c.if-first-end.false,
+        )),
+    c.requires.runs,
+  ),
+)
 
 pub walk-returns-then-near-every : goal.walk-returns-then-near-every
 walk-returns-then-near-every t c =
@@ -303,34 +298,33 @@ walk-overflow_sub-left-3 t c =
     omega arith
 
 pub walk-walk-requires : goal.walk-walk-requires
-walk-walk-requires t c =
-    (
-      below c.decreases (falls_part (entry_count c.args.rule.now) (row_count c.args.pool.now) c.args.entry 0 ((c.args.row
-          + c.args.rows - c.next_ranged-first.result - 1) - ((c.args.row + c.args.rows - c.next_ranged-first.result - 1) / 2)) c.args.rows (omega (
-            arith,
-            (steps.next_place c.args.rule.now c.args.pool.now c.args.b c.args.entry c.args.row c.args.rows
-                c.requires.ready_rows c.entry_at-e.result c.entry_at-e.ensures c.next_ranged-first.result c.next_ranged-first.ensures).0,
-            (steps.next_place c.args.rule.now c.args.pool.now c.args.b c.args.entry c.args.row c.args.rows c.requires.ready_rows c.entry_at-e.result
-                c.entry_at-e.ensures c.next_ranged-first.result c.next_ranged-first.ensures).1,
-            c.requires.ready_rows.place,
-            c.if-first-end.false,
-          ))),
-      (
-        steps.part_ready c.args.rule.now c.args.pool.now c.args.b c.args.entry c.args.row c.args.rows c.requires.ready_rows
-            (c.next_ranged-first.result + 1 + ((c.args.row + c.args.rows - c.next_ranged-first.result - 1) / 2)) ((c.args.row + c.args.rows -
-            c.next_ranged-first.result - 1) - ((c.args.row + c.args.rows - c.next_ranged-first.result - 1) / 2)) (omega (
-              arith,
-              (steps.next_place c.args.rule.now c.args.pool.now c.args.b c.args.entry c.args.row c.args.rows c.requires.ready_rows c.entry_at-e.result
-                  c.entry_at-e.ensures c.next_ranged-first.result c.next_ranged-first.ensures).0,
-              (steps.next_place c.args.rule.now c.args.pool.now
-                  c.args.b c.args.entry c.args.row c.args.rows c.requires.ready_rows c.entry_at-e.result c.entry_at-e.ensures
-                  c.next_ranged-first.result c.next_ranged-first.ensures).1,
-              c.requires.ready_rows.place,
-              c.if-first-end.false,
-            )),
-        c.requires.runs,
-      ),
-    )
+walk-walk-requires t c = (
+  below c.decreases (falls_part (entry_count c.args.rule.now) (row_count c.args.pool.now) c.args.entry 0 ((c.args.row
+      + c.args.rows - c.next_ranged-first.result - 1) - ((c.args.row + c.args.rows - c.next_ranged-first.result - 1) / 2)) c.args.rows (omega (
+        arith,
+        (steps.next_place c.args.rule.now c.args.pool.now c.args.b c.args.entry c.args.row c.args.rows
+            c.requires.ready_rows c.entry_at-e.result c.entry_at-e.ensures c.next_ranged-first.result c.next_ranged-first.ensures).0,
+        (steps.next_place c.args.rule.now c.args.pool.now c.args.b c.args.entry c.args.row c.args.rows c.requires.ready_rows c.entry_at-e.result
+            c.entry_at-e.ensures c.next_ranged-first.result c.next_ranged-first.ensures).1,
+        c.requires.ready_rows.place,
+        c.if-first-end.false,
+      ))),
+  (
+    steps.part_ready c.args.rule.now c.args.pool.now c.args.b c.args.entry c.args.row c.args.rows c.requires.ready_rows
+        (c.next_ranged-first.result + 1 + ((c.args.row + c.args.rows - c.next_ranged-first.result - 1) / 2)) ((c.args.row + c.args.rows -
+        c.next_ranged-first.result - 1) - ((c.args.row + c.args.rows - c.next_ranged-first.result - 1) / 2)) (omega (
+          arith,
+          (steps.next_place c.args.rule.now c.args.pool.now c.args.b c.args.entry c.args.row c.args.rows c.requires.ready_rows c.entry_at-e.result
+              c.entry_at-e.ensures c.next_ranged-first.result c.next_ranged-first.ensures).0,
+          (steps.next_place c.args.rule.now c.args.pool.now
+              c.args.b c.args.entry c.args.row c.args.rows c.requires.ready_rows c.entry_at-e.result c.entry_at-e.ensures
+              c.next_ranged-first.result c.next_ranged-first.ensures).1,
+          c.requires.ready_rows.place,
+          c.if-first-end.false,
+        )),
+    c.requires.runs,
+  ),
+)
 
 pub walk-returns : goal.walk-returns
 walk-returns t c =

@@ -1,7 +1,6 @@
 -- `engine::parents::guessed_parent` meets its contract. Assumes nothing.
 use mathlib.Core.Path.{sym, ap₂, ◌∙◌}
 use Rattle.tables.specs.Tables.{is_parent}
-use borrow.Author.Rules.{rules}
 use Rattle.engine.proofs.parents.guessed_parent.Goals as goal
 
 pub returns-then-is_parent : goal.returns-then-is_parent

@@ -1,8 +1,6 @@
 -- `engine::parents::parent_of` meets its contract. Assumes nothing.
-use Prim.Native.Nat.{◌-◌}
 use native.Mathlib.Omega.{arith}
-use borrow.Author.Rules.{rules}
-use Rattle.engine.proofs.Seeking.{Seeks, not_first, seek_begin, seek_up, seek_down, seek_end}
+use Rattle.engine.proofs.Seeking.{not_first, seek_begin, seek_up, seek_down, seek_end}
 use Rattle.engine.proofs.parents.parent_of.Goals as goal
 
 pub row_at-child-requires : goal.row_at-child-requires

@@ -1,7 +1,6 @@
 -- `engine::ranges::hangs_at` meets its contract. Assumes nothing.
 use mathlib.Core.Path.{◌∙◌}
 use Rattle.engine.proofs.Ranged.{hangs_root, hangs_child}
-use borrow.Author.Rules.{rules}
 use Rattle.engine.proofs.ranges.hangs_at.Goals as goal
 
 pub returns-then-place-eq0 : goal.returns-then-place-eq0

@@ -1,9 +1,7 @@
 -- `engine::ranges::next_at` meets its contract. Assumes nothing.
-use Prim.Native.Nat.{◌+◌, ◌-◌}
 use mathlib.Core.Path.{sym, ◌∙◌}
 use native.Mathlib.Omega.{arith}
-use Rattle.base.proofs.Search.{PassedOn, begin_on, hit_on, miss_on, none_on}
-use Rattle.engine.specs.Ready.{ranged_at}
+use Rattle.base.proofs.Search.{begin_on, hit_on, miss_on, none_on}
 use Rattle.engine.proofs.ranges.next_at.Goals as goal
 
 pub overflow_add-end : goal.overflow_add-end

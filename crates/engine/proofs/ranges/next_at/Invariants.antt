@@ -1,8 +1,6 @@
 -- `engine::ranges::next_at` meets its contract. Assumes nothing.
 use Prim.Native.Nat.{◌+◌, ◌-◌}
-use mathlib.Core.Path.{sym, ◌∙◌}
-use native.Mathlib.Omega.{arith}
-use Rattle.base.proofs.Search.{PassedOn, begin_on, hit_on, miss_on, none_on}
+use Rattle.base.proofs.Search.{PassedOn}
 use Rattle.engine.specs.Ready.{ranged_at}
 use Rattle.engine.proofs.ranges.next_at.Given as goal
 

@@ -3,7 +3,6 @@ use mathlib.Core.Path.{refl, sym, ap, ◌∙◌}
 use native.Mathlib.Omega.{arith}
 use Rattle.engine.specs.Ready.{place_under}
 use Rattle.engine.proofs.Ranged.{place_named, place_inside, none_first, first_at_place}
-use borrow.Author.Rules.{rules}
 use Rattle.engine.proofs.ranges.next_ranged.Goals as goal
 
 pub returns-then-under-eq0 : goal.returns-then-under-eq0

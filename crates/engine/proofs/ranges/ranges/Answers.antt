@@ -2,7 +2,6 @@
 use mathlib.Core.Path.{sym, ap, ◌∙◌}
 use Rattle.engine.specs.Ready.{place_under}
 use Rattle.engine.proofs.Ranged.{place_named, place_inside, none_ranged, at_place}
-use borrow.Author.Rules.{rules}
 use Rattle.engine.proofs.ranges.ranges.Goals as goal
 
 pub returns-then-under-eq0 : goal.returns-then-under-eq0

@@ -2,7 +2,6 @@
 use Prim.Native.Nat.{◌-◌}
 use native.Mathlib.Omega.{arith}
 use Rattle.engine.proofs.Runs.{run_roots, run_nothing, run_children}
-use borrow.Author.Rules.{rules}
 use Rattle.engine.proofs.ranges.run_of.Goals as goal
 
 pub returns-then-under-eq0 : goal.returns-then-under-eq0

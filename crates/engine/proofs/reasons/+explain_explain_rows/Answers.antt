@@ -1,16 +1,14 @@
 -- `engine::reasons::explain` and `engine::reasons::explain_rows`, which call each other, meet their contracts. Assumes nothing.
-use Prim.Native.Nat.{ℕ, ◌<◌, ◌+◌, ◌-◌, ◌/◌}
+use Prim.Native.Nat.{◌+◌, ◌-◌, ◌/◌}
 use mathlib.Core.Path.{refl, sym, ap, ◌∙◌}
-use borrow.Author.Rules.{rules}
 use native.Mathlib.Omega.{arith}
 use lib.ListN.{length-set}
 use Rattle.tables.specs.Words.{entry_count, row_count}
 use Rattle.tables.specs.declared.Entry.{Entry}
-use Rattle.engine.proofs.Falls.{entry_measure, rows_measure, below, below_later, falls_child, falls_later, falls_rows, falls_body, falls_part}
+use Rattle.engine.proofs.Falls.{below, below_later, falls_child, falls_later, falls_rows, falls_body, falls_part}
 use Rattle.engine.proofs.Steps as steps
 use Rattle.engine.proofs.Explained as explained
 use Rattle.engine.proofs.Wholes.{whole_stays, whole_with_row}
-use Prim.Native.Nat.{ℕ, ◌<◌}
 use Rattle.engine.proofs.reasons.+explain_explain_rows.Goals as goal
 
 pub explain-past_nots-bare-requires : goal.explain-past_nots-bare-requires
@@ -78,8 +76,8 @@ pub explain-returns-then-verdict-e-clause-out_after : goal.explain-returns-then-
 explain-returns-then-verdict-e-clause-out_after t c =
     let u = explained.under_ready _ _ _ _ _ c.past_nots-bare.ensures.under c.args.pool.now c.args.b c.requires.ready in
     let v = explained.under_verdict _ _ _ _ _ c.past_nots-bare.ensures.under c.args.pool.now c.args.b c.requires.verdict_value.0 in explained.under_marked _ _ _ _ _ c.past_nots-bare.ensures.under c.args.pool.now c.args.b c.args.out.now _
-          (explained.both_marked _ _ _ _ u _ c.entry_at-e.ensures _ v (λ z. c.past_nots-bare.ensures.fact (ap (λ (y : Entry). y.kind) (sym
-          c.entry_at-e.ensures) ∙ z)) c.if-e-lt5.true c.if-verdict-e.true c.args.out.now _ _ c.explain-before.ensures.out_after c.explain.ensures.out_after)
+    (explained.both_marked _ _ _ _ u _ c.entry_at-e.ensures _ v (λ z. c.past_nots-bare.ensures.fact (ap (λ (y : Entry). y.kind) (sym
+    c.entry_at-e.ensures) ∙ z)) c.if-e-lt5.true c.if-verdict-e.true c.args.out.now _ _ c.explain-before.ensures.out_after c.explain.ensures.out_after)
 
 pub explain-returns-then-verdict-e-clause-marked_whole_2 : goal.explain-returns-then-verdict-e-clause-marked_whole_2
 explain-returns-then-verdict-e-clause-marked_whole_2 t c =
@@ -114,9 +112,9 @@ pub explain-returns-then-left_decides-clause-out_after : goal.explain-returns-th
 explain-returns-then-left_decides-clause-out_after t c =
     let u = explained.under_ready _ _ _ _ _ c.past_nots-bare.ensures.under c.args.pool.now c.args.b c.requires.ready in
     let v = explained.under_verdict _ _ _ _ _ c.past_nots-bare.ensures.under c.args.pool.now c.args.b c.requires.verdict_value.0 in explained.under_marked _ _ _ _ _ c.past_nots-bare.ensures.under c.args.pool.now c.args.b c.args.out.now _
-          (explained.left_marked_only _ _ _ _ u _ c.entry_at-e.ensures _ v (λ z. c.past_nots-bare.ensures.fact (ap (λ (y : Entry). y.kind) (sym
-          c.entry_at-e.ensures) ∙ z)) c.if-e-lt5.true c.if-verdict-e.false _ _ c.holds-left.ensures c.left_decides.ensures c.if-left_decides.true c.args.out.now _
-          c.explain-then-left_decides.ensures.out_after)
+    (explained.left_marked_only _ _ _ _ u _ c.entry_at-e.ensures _ v (λ z. c.past_nots-bare.ensures.fact (ap (λ (y : Entry). y.kind) (sym
+    c.entry_at-e.ensures) ∙ z)) c.if-e-lt5.true c.if-verdict-e.false _ _ c.holds-left.ensures c.left_decides.ensures c.if-left_decides.true c.args.out.now _
+    c.explain-then-left_decides.ensures.out_after)
 
 pub explain-returns-then-left_decides-clause-marked_whole_2 : goal.explain-returns-then-left_decides-clause-marked_whole_2
 explain-returns-then-left_decides-clause-marked_whole_2 t c =
@@ -157,9 +155,9 @@ pub explain-returns-then-e-lt5-clause-out_after : goal.explain-returns-then-e-lt
 explain-returns-then-e-lt5-clause-out_after t c =
     let u = explained.under_ready _ _ _ _ _ c.past_nots-bare.ensures.under c.args.pool.now c.args.b c.requires.ready in
     let v = explained.under_verdict _ _ _ _ _ c.past_nots-bare.ensures.under c.args.pool.now c.args.b c.requires.verdict_value.0 in explained.under_marked _ _ _ _ _ c.past_nots-bare.ensures.under c.args.pool.now c.args.b c.args.out.now _
-          (explained.right_marked_only _ _ _ _ u _ c.entry_at-e.ensures _ v (λ z. c.past_nots-bare.ensures.fact (ap (λ (y : Entry). y.kind) (sym
-          c.entry_at-e.ensures) ∙ z)) c.if-e-lt5.true c.if-verdict-e.false _ _ c.holds-left.ensures c.left_decides.ensures c.if-left_decides.false c.args.out.now _
-          c.explain-then-e-lt5.ensures.out_after)
+    (explained.right_marked_only _ _ _ _ u _ c.entry_at-e.ensures _ v (λ z. c.past_nots-bare.ensures.fact (ap (λ (y : Entry). y.kind) (sym
+    c.entry_at-e.ensures) ∙ z)) c.if-e-lt5.true c.if-verdict-e.false _ _ c.holds-left.ensures c.left_decides.ensures c.if-left_decides.false c.args.out.now _
+    c.explain-then-e-lt5.ensures.out_after)
 
 pub explain-returns-then-e-lt5-clause-marked_whole_2 : goal.explain-returns-then-e-lt5-clause-marked_whole_2
 explain-returns-then-e-lt5-clause-marked_whole_2 t c =
@@ -246,9 +244,9 @@ explain-returns-then-all-clause-out_after t c =
     c.run_of-r.ensures.place in
     let w = steps.run_whole _ _ _ _ u _ c.entry_at-e.ensures c.if-e-lt5.false c.if-e-lt7.true c.run_of-r.result.start c.run_of-r.result.rows
     c.run_of-r.ensures in explained.under_marked _ _ _ _ _ c.past_nots-bare.ensures.under c.args.pool.now c.args.b c.args.out.now _
-          (explained.once_marked _ _ _ _ _ _ o _ c.entry_at-e.ensures _ v w c.if-verdict-e-2.true _ c.bind.ensures (λ y. c.settled_before.ensures.alike
-          c.if-settled_before.true refl y) _ c.mark_whole-all.ensures.found_value c.args.out.now _ c.mark_whole-all.ensures.out_after c.if-all.true _
-          c.explain-then-all.ensures.out_after)
+    (explained.once_marked _ _ _ _ _ _ o _ c.entry_at-e.ensures _ v w c.if-verdict-e-2.true _ c.bind.ensures (λ y. c.settled_before.ensures.alike
+    c.if-settled_before.true refl y) _ c.mark_whole-all.ensures.found_value c.args.out.now _ c.mark_whole-all.ensures.out_after c.if-all.true _
+    c.explain-then-all.ensures.out_after)
 
 pub explain-returns-then-all-clause-marked_whole_2 : goal.explain-returns-then-all-clause-marked_whole_2
 explain-returns-then-all-clause-marked_whole_2 t c =
@@ -271,8 +269,8 @@ explain-returns-then-settled_before-clause-out_after t c =
     c.run_of-r.ensures.place in
     let w = steps.run_whole _ _ _ _ u _ c.entry_at-e.ensures c.if-e-lt5.false c.if-e-lt7.true c.run_of-r.result.start c.run_of-r.result.rows
     c.run_of-r.ensures in explained.under_marked _ _ _ _ _ c.past_nots-bare.ensures.under c.args.pool.now c.args.b c.args.out.now _
-          (explained.nowhere_marked _ _ _ _ _ _ o _ c.entry_at-e.ensures _ v w c.if-verdict-e-2.true _ refl (λ y. c.settled_before.ensures.alike
-          c.if-settled_before.true refl y) _ c.mark_whole-all.ensures.found_value c.args.out.now _ c.mark_whole-all.ensures.out_after c.if-all.false)
+    (explained.nowhere_marked _ _ _ _ _ _ o _ c.entry_at-e.ensures _ v w c.if-verdict-e-2.true _ refl (λ y. c.settled_before.ensures.alike
+    c.if-settled_before.true refl y) _ c.mark_whole-all.ensures.found_value c.args.out.now _ c.mark_whole-all.ensures.out_after c.if-all.false)
 
 pub explain-returns-then-settled_before-clause-marked_whole_2 : goal.explain-returns-then-settled_before-clause-marked_whole_2
 explain-returns-then-settled_before-clause-marked_whole_2 t c =
@@ -317,7 +315,7 @@ explain-returns-then-verdict-e-2-clause-out_after t c =
     c.run_of-r.ensures.place in
     let w = steps.run_whole _ _ _ _ u _ c.entry_at-e.ensures c.if-e-lt5.false c.if-e-lt7.true c.run_of-r.result.start c.run_of-r.result.rows
     c.run_of-r.ensures in explained.under_marked _ _ _ _ _ c.past_nots-bare.ensures.under c.args.pool.now c.args.b c.args.out.now _
-          (explained.all_marked _ _ _ _ _ _ o _ c.entry_at-e.ensures _ v w c.if-verdict-e-2.true c.args.out.now _ c.explain_rows.ensures.out_after)
+    (explained.all_marked _ _ _ _ _ _ o _ c.entry_at-e.ensures _ v w c.if-verdict-e-2.true c.args.out.now _ c.explain_rows.ensures.out_after)
 
 pub explain-returns-then-verdict-e-2-clause-marked_whole_2 : goal.explain-returns-then-verdict-e-2-clause-marked_whole_2
 explain-returns-then-verdict-e-2-clause-marked_whole_2 t c =
@@ -424,8 +422,8 @@ explain-returns-then-e-lt7-clause-out_after t c =
     c.run_of-r.ensures.place in
     let w = steps.run_whole _ _ _ _ u _ c.entry_at-e.ensures c.if-e-lt5.false c.if-e-lt7.true c.run_of-r.result.start c.run_of-r.result.rows
     c.run_of-r.ensures in explained.under_marked _ _ _ _ _ c.past_nots-bare.ensures.under c.args.pool.now c.args.b c.args.out.now _
-          (explained.first_marked _ _ _ _ _ _ o _ c.entry_at-e.ensures _ v w c.if-verdict-e-2.false c.first_deciding-row.result c.first_deciding-row.ensures _
-          c.bind-then-e-lt7.ensures c.args.out.now _ c.explain-then-e-lt7.ensures.out_after)
+    (explained.first_marked _ _ _ _ _ _ o _ c.entry_at-e.ensures _ v w c.if-verdict-e-2.false c.first_deciding-row.result c.first_deciding-row.ensures _
+    c.bind-then-e-lt7.ensures c.args.out.now _ c.explain-then-e-lt7.ensures.out_after)
 
 pub explain-returns-then-e-lt7-clause-marked_whole_2 : goal.explain-returns-then-e-lt7-clause-marked_whole_2
 explain-returns-then-e-lt7-clause-marked_whole_2 t c =
@@ -443,7 +441,7 @@ explain-mark_compared-requires-clause-a_lt_nesting_limit t c =
 pub explain-mark_compared-requires-clause-by_index : goal.explain-mark_compared-requires-clause-by_index
 explain-mark_compared-requires-clause-by_index t c =
     let u = explained.under_ready _ _ _ _ _ c.past_nots-bare.ensures.under c.args.pool.now c.args.b c.requires.ready in (λ v.
-          omega (arith, c.requires.verdict_value.1, c.requires.ready.placed.kept v))
+    omega (arith, c.requires.verdict_value.1, c.requires.ready.placed.kept v))
 
 pub explain-shape_of-out : goal.explain-shape_of-out
 explain-shape_of-out t c =
@@ -482,7 +480,7 @@ explain_rows-overflow_add-end t c =
 pub explain_rows-returns-then-first-end-clause-out_after : goal.explain_rows-returns-then-first-end-clause-out_after
 explain_rows-returns-then-first-end-clause-out_after t c =
     explained.no_row_marked _ _ _ _ _ _ c.requires.ready_rows _ c.entry_at-e.ensures c.requires.rows_value.0 c.next_ranged-first.result
-          c.next_ranged-first.ensures c.if-first-end.true c.args.out.now
+    c.next_ranged-first.ensures c.if-first-end.true c.args.out.now
 
 pub explain_rows-returns-then-first-end-clause-marked_whole_2 : goal.explain_rows-returns-then-first-end-clause-marked_whole_2
 explain_rows-returns-then-first-end-clause-marked_whole_2 t c =
@@ -551,7 +549,7 @@ explain_rows-shape_of-out-then-left-eq0 t c =
 pub explain_rows-returns-then-left-eq0-clause-out_after : goal.explain_rows-returns-then-left-eq0-clause-out_after
 explain_rows-returns-then-left-eq0-clause-out_after t c =
     explained.last_marked _ _ _ _ _ _ c.requires.ready_rows _ c.entry_at-e.ensures c.requires.rows_value.0 c.next_ranged-first.result
-          c.next_ranged-first.ensures c.if-first-end.false _ c.bind-bound.ensures c.if-left-eq0.true c.args.out.now _ c.explain-one.ensures.out_after
+    c.next_ranged-first.ensures c.if-first-end.false _ c.bind-bound.ensures c.if-left-eq0.true c.args.out.now _ c.explain-one.ensures.out_after
 
 pub explain_rows-returns-then-left-eq0-clause-marked_whole_2 : goal.explain_rows-returns-then-left-eq0-clause-marked_whole_2
 explain_rows-returns-then-left-eq0-clause-marked_whole_2 t c =
@@ -637,8 +635,8 @@ explain_rows-shape_of-out t c =
 pub explain_rows-returns-clause-out_after : goal.explain_rows-returns-clause-out_after
 explain_rows-returns-clause-out_after t c =
     explained.rows_marked _ _ _ _ _ _ c.requires.ready_rows _ c.entry_at-e.ensures c.requires.rows_value.0 c.next_ranged-first.result
-          c.next_ranged-first.ensures c.if-first-end.false ((c.args.row + c.args.rows - c.next_ranged-first.result - 1) / 2) (omega arith) _ c.bind-bound.ensures
-          c.args.out.now _ _ _ c.explain-one.ensures.out_after c.explain_rows-near.ensures.out_after c.explain_rows.ensures.out_after
+    c.next_ranged-first.ensures c.if-first-end.false ((c.args.row + c.args.rows - c.next_ranged-first.result - 1) / 2) (omega arith) _ c.bind-bound.ensures
+    c.args.out.now _ _ _ c.explain-one.ensures.out_after c.explain_rows-near.ensures.out_after c.explain_rows.ensures.out_after
 
 pub explain_rows-returns-clause-marked_whole_2 : goal.explain_rows-returns-clause-marked_whole_2
 explain_rows-returns-clause-marked_whole_2 t c =

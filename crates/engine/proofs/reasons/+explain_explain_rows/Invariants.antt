@@ -1,7 +1,5 @@
 -- `engine::reasons::explain` and `engine::reasons::explain_rows`, which call each other, meet their contracts. Assumes nothing.
-use Prim.Native.Nat.{ℕ, ◌<◌, ◌+◌, ◌-◌, ◌/◌}
-use Rattle.engine.proofs.Falls.{entry_measure, rows_measure, below, below_later, falls_child, falls_later, falls_rows, falls_body, falls_part}
-use Prim.Native.Nat.{ℕ, ◌<◌}
+use Rattle.engine.proofs.Falls.{entry_measure, rows_measure}
 use Rattle.engine.proofs.reasons.+explain_explain_rows.Given as goal
 
 abbrev pub decreases-explain : goal.decreases-explain

@@ -3,7 +3,6 @@ use Prim.Native.Nat.{◌+◌}
 use native.Mathlib.Omega.{arith}
 use Rattle.engine.proofs.Steps.{over_limit, bound_ready}
 use Rattle.engine.proofs.Explained.{decides_row, decides_not}
-use borrow.Author.Rules.{rules}
 use Rattle.engine.proofs.reasons.decides.Goals as goal
 
 pub ranges-requires-clause-placed : goal.ranges-requires-clause-placed

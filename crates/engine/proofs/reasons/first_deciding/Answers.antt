@@ -1,9 +1,8 @@
 -- `engine::reasons::first_deciding` meets its contract. Assumes nothing.
-use Prim.Native.Nat.{ℕ, ◌+◌, ◌-◌}
+use Prim.Native.Nat.{ℕ, ◌+◌}
 use mathlib.Core.Path.{ap, sym, ◌∙◌}
 use native.Mathlib.Omega.{arith}
-use Rattle.base.proofs.Search.{Passed, begin, hit, miss, none}
-use Rattle.engine.specs.Marked.{decides_at}
+use Rattle.base.proofs.Search.{begin, hit, miss, none}
 use Rattle.engine.proofs.Steps.{part_ready}
 use Rattle.engine.proofs.reasons.first_deciding.Goals as goal
 

@@ -1,10 +1,7 @@
 -- `engine::reasons::first_deciding` meets its contract. Assumes nothing.
 use Prim.Native.Nat.{ℕ, ◌+◌, ◌-◌}
-use mathlib.Core.Path.{ap, sym, ◌∙◌}
-use native.Mathlib.Omega.{arith}
-use Rattle.base.proofs.Search.{Passed, begin, hit, miss, none}
+use Rattle.base.proofs.Search.{Passed}
 use Rattle.engine.specs.Marked.{decides_at}
-use Rattle.engine.proofs.Steps.{part_ready}
 use Rattle.engine.proofs.reasons.first_deciding.Given as goal
 
 abbrev pub invariant-loop-i : goal.invariant-loop-i

@@ -1,6 +1,5 @@
 -- `engine::reasons::mark` meets its contract. Assumes nothing.
 use Rattle.engine.proofs.Explained.{mark_one, mark_nothing}
-use borrow.Author.Rules.{rules}
 use Rattle.engine.proofs.reasons.mark.Goals as goal
 
 pub returns-then-place-gt0 : goal.returns-then-place-gt0

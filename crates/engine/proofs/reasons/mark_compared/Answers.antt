@@ -1,7 +1,6 @@
 -- `engine::reasons::mark_compared` meets its contract. Assumes nothing.
 use native.Mathlib.Omega.{arith}
 use Rattle.engine.proofs.Explained.{compared_variable, compared_constant}
-use borrow.Author.Rules.{rules}
 use Rattle.engine.proofs.reasons.mark_compared.Goals as goal
 
 pub mark-requires : goal.mark-requires

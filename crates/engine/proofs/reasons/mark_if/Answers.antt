@@ -1,5 +1,4 @@
 -- `engine::reasons::mark_if` meets its contract. Assumes nothing.
-use borrow.Author.Rules.{rules}
 use Rattle.engine.proofs.reasons.mark_if.Goals as goal
 
 pub returns-then-asked : goal.returns-then-asked

@@ -1,8 +1,7 @@
 -- `engine::reasons::mark_ranged` meets its contract. Assumes nothing.
-use Prim.Native.Nat.{ℕ, ◌-◌, ◌≤◌}
+use Prim.Native.Nat.{ℕ}
 use mathlib.Core.Path.{◌≡◌, refl, ap, ◌∙◌}
 use native.Mathlib.Omega.{arith}
-use lib.ListN.{length}
 use Rattle.base.specs.Lists.{any, select}
 use Rattle.tables.specs.Words.{rows_from}
 use Rattle.engine.specs.Ready.{ranges_at}

@@ -1,13 +1,11 @@
 -- `engine::reasons::mark_ranged` meets its contract. Assumes nothing.
-use Prim.Native.Nat.{ℕ, ◌-◌, ◌≤◌}
-use mathlib.Core.Path.{◌≡◌, refl, ap, ◌∙◌}
-use native.Mathlib.Omega.{arith}
+use Prim.Native.Nat.{◌-◌, ◌≤◌}
+use mathlib.Core.Path.{◌≡◌}
 use lib.ListN.{length}
 use Rattle.base.specs.Lists.{any, select}
 use Rattle.tables.specs.Words.{rows_from}
 use Rattle.engine.specs.Ready.{ranges_at}
 use Rattle.engine.specs.Marked.{mark_in}
-use Rattle.engine.proofs.Marking.{any_more, mark_more, no_rows}
 use Rattle.engine.proofs.reasons.mark_ranged.Given as goal
 
 abbrev pub invariant-loop-i : goal.invariant-loop-i

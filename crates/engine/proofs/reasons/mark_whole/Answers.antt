@@ -4,7 +4,6 @@ use lib.Dec.{eqb}
 use borrow.Author.Tests.{eqb-true}
 use Rattle.base.proofs.Bools.{and_left, and_right}
 use Rattle.engine.proofs.Wholes.{whole_found, whole_as_it_is, whole_now, whole_stays}
-use borrow.Author.Rules.{rules}
 use Rattle.engine.proofs.reasons.mark_whole.Goals as goal
 
 pub returns-then-roots-whole-clause-found_value : goal.returns-then-roots-whole-clause-found_value

@@ -1,11 +1,7 @@
 -- `engine::reasons::past_nots` meets its contract. Assumes nothing.
-use Prim.Native.Nat.{◌-◌}
-use borrow.Author.Rules.{rules}
 use mathlib.Core.Path.{sym, ap, ◌∙◌}
 use native.Mathlib.Omega.{arith}
-use Rattle.tables.specs.Words.{entry_count}
 use Rattle.tables.specs.declared.Entry.{Entry}
-use Rattle.engine.specs.Marked.{Under}
 use Rattle.engine.proofs.Explained.{under_begin, under_later, under_not}
 use Rattle.engine.proofs.reasons.past_nots.Goals as goal
 

@@ -1,13 +1,9 @@
 -- `engine::touching::touches`, which calls itself, meets its contract. Assumes nothing.
-use Prim.Native.Nat.{ℕ, ◌<◌, ◌-◌}
 use mathlib.Core.Bool.{true≢false}
 use native.Mathlib.Omega.{arith}
-use borrow.Author.Rules.{rules}
-use Rattle.tables.specs.Words.{entry_count}
 use Rattle.tables.proofs.Accepted.{few_rows}
 use Rattle.engine.proofs.Steps as steps
 use Rattle.engine.proofs.Missing as laws
-use Prim.Native.Nat.{ℕ, ◌<◌}
 use Rattle.engine.proofs.touching.+touches.Goals as goal
 
 pub entry_at-e-requires : goal.entry_at-e-requires
@@ -67,7 +63,7 @@ place_on_way-place-requires-clause-placed t c =
 pub place_on_way-place-requires-clause-b_le_nesting_limit : goal.place_on_way-place-requires-clause-b_le_nesting_limit
 place_on_way-place-requires-clause-b_le_nesting_limit t c =
     steps.run_limit _ _ _ _ c.requires.ready _ c.entry_at-e.ensures c.if-e-lt5.false (omega
-            (arith, c.if-e-gt6.false))
+    (arith, c.if-e-gt6.false))
 
 pub place_on_way-place-requires-clause-way_up : goal.place_on_way-place-requires-clause-way_up
 place_on_way-place-requires-clause-way_up t c =

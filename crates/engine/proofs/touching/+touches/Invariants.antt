@@ -1,7 +1,6 @@
 -- `engine::touching::touches`, which calls itself, meets its contract. Assumes nothing.
-use Prim.Native.Nat.{ℕ, ◌<◌, ◌-◌}
+use Prim.Native.Nat.{◌-◌}
 use Rattle.tables.specs.Words.{entry_count}
-use Prim.Native.Nat.{ℕ, ◌<◌}
 use Rattle.engine.proofs.touching.+touches.Given as goal
 
 abbrev pub decreases-touches : goal.decreases-touches

@@ -2,7 +2,6 @@
 use Prim.Native.Nat.{◌-◌}
 use native.Mathlib.Omega.{arith}
 use Rattle.engine.proofs.Ways.{depth_roots, depth_none, depth_child}
-use borrow.Author.Rules.{rules}
 use Rattle.engine.proofs.touching.depth_of.Goals as goal
 
 pub returns-then-e-eq0 : goal.returns-then-e-eq0

@@ -2,7 +2,6 @@
 use mathlib.Core.Path.{refl, sym, ◌∙◌}
 use native.Mathlib.Omega.{arith}
 use Rattle.engine.proofs.Ways.{lands_past, lands_free, lands_inside, lands_other, lands_there}
-use borrow.Author.Rules.{rules}
 use Rattle.engine.proofs.touching.place_on_way.Goals as goal
 
 pub depth_of-deep-requires-clause-placed : goal.depth_of-deep-requires-clause-placed

@@ -1,12 +1,9 @@
 -- `engine::touching::touched_rules` meets its contract. The loop's invariant: the rules passed are told. Assumes nothing.
-use Prim.Native.Nat.{◌-◌}
 use mathlib.Core.Path.{refl}
 use native.Mathlib.Omega.{arith}
-use lib.ListN.{length}
 use Rattle.sets.proofs.Sets.{rule_inside, rule_is}
 use Rattle.engine.proofs.SetBytes.{one_small}
-use Rattle.engine.proofs.TouchedRules.{Asking, ask_begin, way_from, ask_room, ask_ready, ask_more, ask_end}
-use borrow.Author.Rules.{rules}
+use Rattle.engine.proofs.TouchedRules.{ask_begin, way_from, ask_room, ask_ready, ask_more, ask_end}
 use Rattle.engine.proofs.touching.touched_rules.Goals as goal
 
 pub way_up-way-requires : goal.way_up-way-requires
@@ -47,7 +44,7 @@ slice_bounds-rule-end c = omega (arith, rule_inside _ _ c.loop-i.invariant.walke
 
 pub touches-requires-clause-ready : goal.touches-requires-clause-ready
 touches-requires-clause-ready c = ask_ready _ _ _ _ c.requires.counts_value.0 c.requires.counts_value.1 c.loop-i.invariant c.loop-i-test.true (rule_is _ _ c.loop-i.invariant.walked
-          c.loop-i-test.true refl) c.none.ensures
+    c.loop-i-test.true refl) c.none.ensures
 
 pub touches-requires-clause-way_up : goal.touches-requires-clause-way_up
 touches-requires-clause-way_up c = way_from c.args.rules.now c.args.counts.now _ _ c.way_up-way.ensures

@@ -2,8 +2,7 @@
 use mathlib.Core.Path.{refl}
 use native.Mathlib.Omega.{arith}
 use Rattle.tables.proofs.Accepted.{few_rows}
-use Rattle.engine.proofs.Ways.{Climbed, climb_begin, goes_on, p_inside, climb_more, climb_end}
-use borrow.Author.Rules.{rules}
+use Rattle.engine.proofs.Ways.{climb_begin, goes_on, p_inside, climb_more, climb_end}
 use Rattle.engine.proofs.touching.way_up.Goals as goal
 
 pub row_at-requires : goal.row_at-requires
@@ -29,14 +28,14 @@ row_at-requires-in-loop-i-2 c = p_inside _ c.requires.0 _ c.loop-i.invariant c.r
 
 pub with-way-requires-in-loop-i : goal.with-way-requires-in-loop-i
 with-way-requires-in-loop-i c = (
-      omega (
-        arith,
-        few_rows _ c.requires.0,
-        p_inside _ c.requires.0 _ c.loop-i.invariant c.row_at-in-loop-i.ensures
-            c.parent_of-i.ensures,
-      ),
-      c.loop-i.invariant.sized,
-    )
+  omega (
+    arith,
+    few_rows _ c.requires.0,
+    p_inside _ c.requires.0 _ c.loop-i.invariant c.row_at-in-loop-i.ensures
+        c.parent_of-i.ensures,
+  ),
+  c.loop-i.invariant.sized,
+)
 
 pub loop-i-smaller : goal.loop-i-smaller
 loop-i-smaller c = omega (arith, c.parent_of-i.ensures.0)

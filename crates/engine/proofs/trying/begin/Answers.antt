@@ -1,6 +1,5 @@
 -- `engine::trying::begin` meets its contract. Assumes nothing.
 use Rattle.engine.proofs.Running.{begin_refused, begin_short, begin_fits}
-use borrow.Author.Rules.{rules}
 use Rattle.engine.proofs.trying.begin.Goals as goal
 
 pub returns-in-Refused : goal.returns-in-Refused

@@ -1,7 +1,6 @@
 -- `engine::trying::check_room` meets its contract. Assumes nothing.
 use native.Mathlib.Omega.{arith}
 use Rattle.engine.proofs.Stepping.{room_refused, room_short, room_fits}
-use borrow.Author.Rules.{rules}
 use Rattle.engine.proofs.trying.check_room.Goals as goal
 
 pub returns-in-Refused : goal.returns-in-Refused

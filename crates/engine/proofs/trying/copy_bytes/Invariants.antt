@@ -1,9 +1,7 @@
 -- `engine::trying::copy_bytes` meets its contract. Assumes nothing.
 use Prim.Native.Nat.{◌-◌}
-use native.Mathlib.Omega.{arith}
 use lib.ListN.{length}
-use Rattle.base.proofs.Copies.{Copying, copy_begin, copy_more, copy_end}
-use borrow.Author.Rules.{rules}
+use Rattle.base.proofs.Copies.{Copying}
 use Rattle.engine.proofs.trying.copy_bytes.Given as goal
 
 abbrev pub invariant-loop-i : goal.invariant-loop-i

@@ -1,10 +1,7 @@
 -- `engine::trying::copy_words` meets its contract. Assumes nothing.
-use Prim.Native.Nat.{◌-◌}
 use native.Mathlib.Omega.{arith}
-use lib.ListN.{length}
-use Rattle.base.proofs.Copies.{Copying, copy_begin, copy_end}
+use Rattle.base.proofs.Copies.{copy_begin, copy_end}
 use Rattle.engine.proofs.Stepping.{copy_from_start}
-use borrow.Author.Rules.{rules}
 use Rattle.engine.proofs.trying.copy_words.Goals as goal
 
 pub loop-i-init : goal.loop-i-init

@@ -1,9 +1,7 @@
 -- `engine::trying::run_steps` meets its contract. The loop's invariant: the run is that of the steps left. Assumes nothing.
-use Prim.Native.Nat.{◌-◌}
 use mathlib.Core.Path.{sym, ◌∙◌}
 use native.Mathlib.Omega.{arith}
-use Rattle.engine.proofs.Running.{Running, run_begin, step_inside, run_stops, run_more, run_end}
-use borrow.Author.Rules.{rules}
+use Rattle.engine.proofs.Running.{run_begin, step_inside, run_stops, run_more, run_end}
 use Rattle.engine.proofs.trying.run_steps.Goals as goal
 
 pub loop-k-init : goal.loop-k-init

@@ -6,7 +6,6 @@ use native.Mathlib.Omega.{arith}
 use lib.ListN.{length}
 use lib.Seq.{sets, length-take-le}
 use Rattle.engine.proofs.Stepping.{room_for_bytes, bytes_there, bytes_taken, bytes_are}
-use borrow.Author.Rules.{rules}
 use Rattle.engine.proofs.trying.take_step.Goals as goal
 
 pub slice_bounds-bring_up-end : goal.slice_bounds-bring_up-end
@@ -31,10 +30,10 @@ slice_bounds-copy_bytes-end-2 c = sym (bytes_taken c.args.rules.now c.args.count
 
 pub copy_bytes-requires : goal.copy_bytes-requires
 copy_bytes-requires c = omega (
-      arith,
-      c.requires.next_in_bounds.1,
-      bytes_taken c.args.rules.now c.args.counts.now c.args.next.now c.args.bytes.now (room_for_bytes _ _ _ _ _ _ _ _ c.requires.changed) c.bring_up.ensures,
-    )
+  arith,
+  c.requires.next_in_bounds.1,
+  bytes_taken c.args.rules.now c.args.counts.now c.args.next.now c.args.bytes.now (room_for_bytes _ _ _ _ _ _ _ _ c.requires.changed) c.bring_up.ensures,
+)
 
 pub copy_words-requires : goal.copy_words-requires
 copy_words-requires c = c.requires.next_in_bounds.0
@@ -47,4 +46,4 @@ returns-clause-bytes_after c = c.bring_up.ensures
 
 pub returns-clause-verdicts_after : goal.returns-clause-verdicts_after
 returns-clause-verdicts_after c = c.copy_bytes.ensures ∙ ap (λ (vs : List ℕ). sets c.args.verdicts.now
-            (length c.args.counts.now * c.args.k) vs) (bytes_are c.args.rules.now c.args.counts.now c.args.next.now c.args.bytes.now (room_for_bytes _ _ _ _ _ _ _ _ c.requires.changed) c.bring_up.ensures)
+    (length c.args.counts.now * c.args.k) vs) (bytes_are c.args.rules.now c.args.counts.now c.args.next.now c.args.bytes.now (room_for_bytes _ _ _ _ _ _ _ _ c.requires.changed) c.bring_up.ensures)

@@ -1,6 +1,5 @@
 -- `engine::trying::try_plan` meets its contract. Assumes nothing.
 use Rattle.engine.proofs.Running.{trial_refused, pool_fits, trial_begun, trial_done}
-use borrow.Author.Rules.{rules}
 use Rattle.engine.proofs.trying.try_plan.Goals as goal
 
 pub returns-in-Refused-clause-trial : goal.returns-in-Refused-clause-trial

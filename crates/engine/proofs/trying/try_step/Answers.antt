@@ -4,7 +4,6 @@ use mathlib.Core.Path.{sym}
 use lib.ListN.{length-replicate}
 use lib.Seq.{length-take-le}
 use Rattle.engine.proofs.Stepping.{next_words, step_refused, long_inside, room_refuses, room_there, changed_so, step_taken}
-use borrow.Author.Rules.{rules}
 use Rattle.engine.proofs.trying.try_step.Goals as goal
 
 pub slice_bounds-apply-end : goal.slice_bounds-apply-end
@@ -44,12 +43,12 @@ take_step-requires-clause-words_in_bounds c = c.requires.words_inside
 
 pub take_step-requires-clause-changed : goal.take_step-requires-clause-changed
 take_step-requires-clause-changed c = changed_so c.args.rules.now c.args.counts.now c.args.k c.args.words c.args.step.now c.args.table.now c.args.bytes.now c.args.verdicts.now c.requires c.apply-change.ensures.change
-            c.in-Done.is c.apply-change.ensures.words c.check_room-checked.ensures c.in_default.is
+    c.in-Done.is c.apply-change.ensures.words c.check_room-checked.ensures c.in_default.is
 
 pub take_step-requires-clause-next_in_bounds : goal.take_step-requires-clause-next_in_bounds
 take_step-requires-clause-next_in_bounds c = room_there c.args.rules.now
-            c.args.counts.now c.args.k c.args.words c.args.step.now c.args.table.now c.args.bytes.now c.args.verdicts.now c.requires c.apply-change.ensures.change c.in-Done.is c.apply-change.ensures.words
-            c.check_room-checked.ensures c.in_default.is
+    c.args.counts.now c.args.k c.args.words c.args.step.now c.args.table.now c.args.bytes.now c.args.verdicts.now c.requires c.apply-change.ensures.change c.in-Done.is c.apply-change.ensures.words
+    c.check_room-checked.ensures c.in_default.is
 
 pub returns-in-Refused : goal.returns-in-Refused
 returns-in-Refused c = step_refused c.args.rules.now c.args.counts.now c.args.k c.args.words c.args.step.now c.args.table.now c.args.bytes.now c.args.verdicts.now c.requires c.apply-change.ensures.change c.in-Refused.is

@@ -2,7 +2,6 @@
 use native.Mathlib.Omega.{arith}
 use Rattle.engine.proofs.Answered.{start_ready}
 use Rattle.engine.proofs.SetBytes.{one_small, asked_byte}
-use borrow.Author.Rules.{rules}
 use Rattle.engine.proofs.verdicts.byte_of.Goals as goal
 
 pub returns-then-asked-eq0 : goal.returns-then-asked-eq0

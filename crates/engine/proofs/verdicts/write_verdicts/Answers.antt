@@ -1,11 +1,8 @@
 -- `engine::verdicts::write_verdicts` meets its contract. The loop's invariant: what is left to write is that of the rules left. Assumes nothing.
-use Prim.Native.Nat.{◌-◌}
 use mathlib.Core.Path.{refl, sym}
 use native.Mathlib.Omega.{arith}
-use borrow.Author.Rules.{rules}
-use lib.ListN.{length}
 use Rattle.sets.proofs.Sets.{rule_inside, rule_is}
-use Rattle.engine.proofs.SetBytes.{Writes, write_begin, write_rule_lem, write_there, write_more, write_end}
+use Rattle.engine.proofs.SetBytes.{write_begin, write_rule_lem, write_there, write_more, write_end}
 use Rattle.engine.proofs.verdicts.write_verdicts.Goals as goal
 
 pub find_runs-requires-clause-pool_value : goal.find_runs-requires-clause-pool_value
@@ -61,17 +58,17 @@ bounds-out-i c = omega (arith, c.loop-i-test.true, c.requires.counts_in_bounds.0
 
 pub byte_of-requires-clause-rule_value : goal.byte_of-requires-clause-rule_value
 byte_of-requires-clause-rule_value c = (
-        write_rule_lem _ _ _ _ _ c.requires.counts_value.0 c.loop-i.invariant c.loop-i-test.true (rule_is _ _ c.loop-i.invariant.walked
-            c.loop-i-test.true refl),
-        c.requires.counts_value.1,
-      )
+  write_rule_lem _ _ _ _ _ c.requires.counts_value.0 c.loop-i.invariant c.loop-i-test.true (rule_is _ _ c.loop-i.invariant.walked
+      c.loop-i-test.true refl),
+  c.requires.counts_value.1,
+)
 
 pub byte_of-requires-clause-runs : goal.byte_of-requires-clause-runs
 byte_of-requires-clause-runs c = c.find_runs.ensures
 
 pub byte_of-requires-clause-byte_value : goal.byte_of-requires-clause-byte_value
 byte_of-requires-clause-byte_value c = write_there _ _ _ _ _ c.requires.counts_value.0 c.loop-i.invariant c.loop-i-test.true
-            (rule_is _ _ c.loop-i.invariant.walked c.loop-i-test.true refl) c.requires.rest_there
+    (rule_is _ _ c.loop-i.invariant.walked c.loop-i-test.true refl) c.requires.rest_there
 
 pub bounds-out-i-in-loop-i : goal.bounds-out-i-in-loop-i
 bounds-out-i-in-loop-i c = omega (arith, c.loop-i-test.true, c.requires.counts_in_bounds.0, c.loop-i.invariant.len)

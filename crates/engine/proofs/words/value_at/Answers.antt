@@ -1,6 +1,5 @@
 -- `engine::words::value_at` meets its contract. Assumes nothing.
 use Rattle.engine.proofs.Leaves.{value_row}
-use borrow.Author.Rules.{rules}
 use Rattle.engine.proofs.words.value_at.Goals as goal
 
 pub returns : goal.returns

@@ -1,7 +1,6 @@
 -- `folding::passing::is_equal` meets its contract. Assumes nothing.
 use mathlib.Core.Path.{ap, ◌∙◌}
 use lib.ListN.{get_or}
-use borrow.Author.Rules.{rules}
 use Rattle.tables.specs.Tables.{is_twin}
 use Rattle.tables.specs.declared.Row.{Row}
 use Rattle.folding.specs.Folding.{with_up}

@@ -1,12 +1,9 @@
 -- `folding::passing::last_equal` meets its contract. Assumes nothing.
 use mathlib.Core.Path.{sym, ◌∙◌}
 use native.Mathlib.Omega.{arith}
-use borrow.Author.Rules.{rules}
-use Rattle.tables.specs.Links.{twin_hash}
-use Rattle.tables.specs.Tables.{is_twin}
-use Rattle.tables.proofs.Linked.{Seeks, seek_begin, seek_next, seek_falls}
+use Rattle.tables.proofs.Linked.{seek_begin, seek_next, seek_falls}
 use Rattle.tables.proofs.Siblings.{same_hash}
-use Rattle.folding.specs.Passing.{moved_at, hash_at}
+use Rattle.folding.specs.Passing.{moved_at}
 use Rattle.folding.proofs.Passes.{found_hit, found_none}
 use Rattle.folding.proofs.passing.last_equal.Goals as goal
 
@@ -18,9 +15,9 @@ overflow_sub-j c = omega (arith, c.loop-at-test.true)
 
 pub is_equal-requires : goal.is_equal-requires
 is_equal-requires c = (
-      omega (arith, c.requires.i_bound.0, c.loop-at.invariant.within, c.loop-at-test.true),
-      omega (arith, c.requires.i_bound.1, c.requires.linked.fits, c.loop-at.invariant.within, c.loop-at-test.true),
-    )
+  omega (arith, c.requires.i_bound.0, c.loop-at.invariant.within, c.loop-at-test.true),
+  omega (arith, c.requires.i_bound.1, c.requires.linked.fits, c.loop-at.invariant.within, c.loop-at-test.true),
+)
 
 pub returns-then-is_equal : goal.returns-then-is_equal
 returns-then-is_equal c = found_hit c.loop-at.invariant c.loop-at-test.true (sym c.is_equal.ensures ∙ c.if-is_equal.true)

@@ -1,13 +1,8 @@
 -- `folding::passing::last_equal` meets its contract. Assumes nothing.
-use mathlib.Core.Path.{sym, ◌∙◌}
-use native.Mathlib.Omega.{arith}
-use borrow.Author.Rules.{rules}
 use Rattle.tables.specs.Links.{twin_hash}
 use Rattle.tables.specs.Tables.{is_twin}
-use Rattle.tables.proofs.Linked.{Seeks, seek_begin, seek_next, seek_falls}
-use Rattle.tables.proofs.Siblings.{same_hash}
+use Rattle.tables.proofs.Linked.{Seeks}
 use Rattle.folding.specs.Passing.{moved_at, hash_at}
-use Rattle.folding.proofs.Passes.{found_hit, found_none}
 use Rattle.folding.proofs.passing.last_equal.Given as goal
 
 abbrev pub invariant-loop-at : goal.invariant-loop-at

@@ -1,6 +1,5 @@
 -- `folding::passing::moved_row` meets its contract. Assumes nothing.
 use native.Mathlib.Omega.{arith}
-use borrow.Author.Rules.{rules}
 use Rattle.tables.proofs.Ordered.{few_rows}
 use Rattle.folding.proofs.Passes.{moved_root, moved_child, is_child_lem}
 use Rattle.folding.proofs.passing.moved_row.Goals as goal
@@ -13,9 +12,9 @@ parent_of-parent-requires-clause-foldable c = c.requires.foldable
 
 pub parent_of-parent-requires-clause-row_bound : goal.parent_of-parent-requires-clause-row_bound
 parent_of-parent-requires-clause-row_bound c = (
-        c.requires.i_bound.0,
-        is_child_lem c.args.table.now c.args.into.now c.requires.foldable c.args.i c.requires.i_bound.0 _ c.row_at-r.ensures c.if-r-eq0.false,
-      )
+  c.requires.i_bound.0,
+  is_child_lem c.args.table.now c.args.into.now c.requires.foldable c.args.i c.requires.i_bound.0 _ c.row_at-r.ensures c.if-r-eq0.false,
+)
 
 pub bounds-into-parent : goal.bounds-into-parent
 bounds-into-parent c = omega (arith, c.parent_of-parent.ensures.0, c.requires.i_bound.0, c.requires.i_bound.1.long, few_rows c.args.table.now c.requires.foldable.ordered)

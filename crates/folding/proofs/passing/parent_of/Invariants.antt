@@ -1,7 +1,6 @@
 -- `folding::passing::parent_of` meets its contract. Assumes nothing.
 use Prim.Native.Nat.{◌-◌}
-use native.Mathlib.Omega.{arith}
-use Rattle.folding.proofs.ParentSearch.{Seeks, seek_begin, not_first, seek_up, seek_down, seek_end}
+use Rattle.folding.proofs.ParentSearch.{Seeks}
 use Rattle.folding.proofs.passing.parent_of.Given as goal
 
 abbrev pub invariant-loop-low : goal.invariant-loop-low

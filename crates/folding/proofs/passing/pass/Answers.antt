@@ -1,15 +1,14 @@
 -- `folding::passing::pass` meets its contract. Assumes nothing.
-use Prim.Native.Nat.{◌-◌, ◌<◌}
+use Prim.Native.Nat.{◌<◌}
 use mathlib.Core.Path.{◌≡◌, sym, subst, ◌∙◌}
 use native.Mathlib.Omega.{arith}
-use borrow.Author.Rules.{rules}
 use Rattle.tables.specs.Words.{row_count}
 use Rattle.tables.specs.Links.{hashes}
 use Rattle.tables.proofs.Ordered.{few_rows}
 use Rattle.tables.proofs.Linked.{head_le, last_is}
 use Rattle.tables.proofs.Siblings.{twin_below}
 use Rattle.folding.specs.Passing.{Passing}
-use Rattle.folding.proofs.Passes.{Going, go_begin, backward, go_more}
+use Rattle.folding.proofs.Passes.{go_begin, backward, go_more}
 use Rattle.folding.proofs.passing.pass.Goals as goal
 
 pub loop-i-init : goal.loop-i-init
@@ -42,32 +41,32 @@ last_equal-k-requires-clause-k_value c = last_is _ _ _ c.loop-i.invariant.heads 
 
 pub place_into-requires : goal.place_into-requires
 place_into-requires c = (
-      c.last_equal-k.ensures.within,
-      omega (arith, c.loop-i-test.true, few_rows c.args.table.now c.requires.foldable.ordered),
-      c.loop-i.invariant.passing.into_long,
-    )
+  c.last_equal-k.ensures.within,
+  omega (arith, c.loop-i-test.true, few_rows c.args.table.now c.requires.foldable.ordered),
+  c.loop-i.invariant.passing.into_long,
+)
 
 pub offset_bounds-into-i : goal.offset_bounds-into-i
 offset_bounds-into-i c = omega (arith, c.loop-i-test.true)
 
 pub bounds-into-i : goal.bounds-into-i
 bounds-into-i c = omega (
-      arith,
-      c.loop-i-test.true,
-      few_rows c.args.table.now c.requires.foldable.ordered,
-      c.loop-i.invariant.passing.into_long,
-    )
+  arith,
+  c.loop-i-test.true,
+  few_rows c.args.table.now c.requires.foldable.ordered,
+  c.loop-i.invariant.passing.into_long,
+)
 
 pub offset_bounds-ups-i : goal.offset_bounds-ups-i
 offset_bounds-ups-i c = omega (arith, c.loop-i-test.true)
 
 pub bounds-ups-i : goal.bounds-ups-i
 bounds-ups-i c = omega (
-      arith,
-      c.loop-i-test.true,
-      few_rows c.args.table.now c.requires.foldable.ordered,
-      c.loop-i.invariant.passing.ups_long,
-    )
+  arith,
+  c.loop-i-test.true,
+  few_rows c.args.table.now c.requires.foldable.ordered,
+  c.loop-i.invariant.passing.ups_long,
+)
 
 pub offset_bounds-next-i : goal.offset_bounds-next-i
 offset_bounds-next-i c = omega (arith, c.loop-i-test.true)

@@ -1,8 +1,6 @@
 -- `folding::writing::count_left` meets its contract. Assumes nothing.
-use Prim.Native.Nat.{◌-◌}
 use native.Mathlib.Omega.{arith}
-use Rattle.base.proofs.Sums.{Summed, sum_begin, sum_more, sum_end}
-use Rattle.folding.specs.Passing.{is_left}
+use Rattle.base.proofs.Sums.{sum_begin, sum_more, sum_end}
 use Rattle.folding.proofs.writing.count_left.Goals as goal
 
 pub loop-i-init : goal.loop-i-init

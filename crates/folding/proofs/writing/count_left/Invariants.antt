@@ -1,7 +1,6 @@
 -- `folding::writing::count_left` meets its contract. Assumes nothing.
 use Prim.Native.Nat.{◌-◌}
-use native.Mathlib.Omega.{arith}
-use Rattle.base.proofs.Sums.{Summed, sum_begin, sum_more, sum_end}
+use Rattle.base.proofs.Sums.{Summed}
 use Rattle.folding.specs.Passing.{is_left}
 use Rattle.folding.proofs.writing.count_left.Given as goal
 

@@ -1,6 +1,5 @@
 -- `folding::writing::is_left` meets its contract. Assumes nothing.
 use native.Mathlib.Omega.{arith}
-use borrow.Author.Rules.{rules}
 use Rattle.folding.proofs.Left.{left_one, left_zero}
 use Rattle.folding.proofs.writing.is_left.Goals as goal
 

@@ -1,7 +1,6 @@
 -- `folding::writing::put_left` meets its contract. Assumes nothing.
-use Prim.Native.Nat.{◌-◌}
 use native.Mathlib.Omega.{arith}
-use Rattle.folding.proofs.Left.{Written, write_begin, row_room, write_more, write_end}
+use Rattle.folding.proofs.Left.{write_begin, row_room, write_more, write_end}
 use Rattle.folding.proofs.writing.put_left.Goals as goal
 
 pub loop-i-init : goal.loop-i-init

@@ -1,7 +1,6 @@
 -- `folding::writing::put_left` meets its contract. Assumes nothing.
 use Prim.Native.Nat.{◌-◌}
-use native.Mathlib.Omega.{arith}
-use Rattle.folding.proofs.Left.{Written, write_begin, row_room, write_more, write_end}
+use Rattle.folding.proofs.Left.{Written}
 use Rattle.folding.proofs.writing.put_left.Given as goal
 
 abbrev pub invariant-loop-i : goal.invariant-loop-i

@@ -3,7 +3,6 @@ use Prim.Native.Nat.{◌+◌}
 use mathlib.Core.Path.{◌≡◌, sym, ap, ◌∙◌}
 use native.Mathlib.Omega.{arith}
 use lib.ListN.{length-set}
-use borrow.Author.Rules.{rules}
 use Rattle.folding.specs.Passing.{is_left}
 use Rattle.folding.proofs.Left.{put_nothing, row_words_lem, row_written}
 use Rattle.folding.proofs.writing.put_row.Goals as goal
@@ -18,51 +17,51 @@ returns-then-is_left-eq0-clause-out_after c = (put_nothing c.args.table.now c.ar
 
 pub bounds-out-at : goal.bounds-out-at
 bounds-out-at c = omega (
-      arith,
-      c.requires.i_in_bounds,
-      row_words_lem c.args.table.now c.args.into.now c.args.ups.now c.args.i
-          (λ z. c.if-is_left-eq0.false (c.is_left.ensures.0 ∙ z)),
-    )
+  arith,
+  c.requires.i_in_bounds,
+  row_words_lem c.args.table.now c.args.into.now c.args.ups.now c.args.i
+      (λ z. c.if-is_left-eq0.false (c.is_left.ensures.0 ∙ z)),
+)
 
 pub bounds-out-at-2 : goal.bounds-out-at-2
 bounds-out-at-2 c = simp length-set (omega (
-      arith,
-      c.requires.i_in_bounds,
-      row_words_lem c.args.table.now c.args.into.now c.args.ups.now c.args.i
-          (λ z. c.if-is_left-eq0.false (c.is_left.ensures.0 ∙ z)),
-    ))
+  arith,
+  c.requires.i_in_bounds,
+  row_words_lem c.args.table.now c.args.into.now c.args.ups.now c.args.i
+      (λ z. c.if-is_left-eq0.false (c.is_left.ensures.0 ∙ z)),
+))
 
 pub bounds-out-at-3 : goal.bounds-out-at-3
 bounds-out-at-3 c = simp length-set (omega (
-      arith,
-      c.requires.i_in_bounds,
-      row_words_lem c.args.table.now c.args.into.now c.args.ups.now c.args.i
-          (λ z. c.if-is_left-eq0.false (c.is_left.ensures.0 ∙ z)),
-    ))
+  arith,
+  c.requires.i_in_bounds,
+  row_words_lem c.args.table.now c.args.into.now c.args.ups.now c.args.i
+      (λ z. c.if-is_left-eq0.false (c.is_left.ensures.0 ∙ z)),
+))
 
 pub bounds-out-at-4 : goal.bounds-out-at-4
 bounds-out-at-4 c = simp length-set (omega (
-      arith,
-      c.requires.i_in_bounds,
-      row_words_lem c.args.table.now c.args.into.now c.args.ups.now c.args.i
-          (λ z. c.if-is_left-eq0.false (c.is_left.ensures.0 ∙ z)),
-    ))
+  arith,
+  c.requires.i_in_bounds,
+  row_words_lem c.args.table.now c.args.into.now c.args.ups.now c.args.i
+      (λ z. c.if-is_left-eq0.false (c.is_left.ensures.0 ∙ z)),
+))
 
 pub bounds-out-at-5 : goal.bounds-out-at-5
 bounds-out-at-5 c = simp length-set (omega (
-      arith,
-      c.requires.i_in_bounds,
-      row_words_lem c.args.table.now c.args.into.now c.args.ups.now c.args.i
-          (λ z. c.if-is_left-eq0.false (c.is_left.ensures.0 ∙ z)),
-    ))
+  arith,
+  c.requires.i_in_bounds,
+  row_words_lem c.args.table.now c.args.into.now c.args.ups.now c.args.i
+      (λ z. c.if-is_left-eq0.false (c.is_left.ensures.0 ∙ z)),
+))
 
 pub bounds-out-at-6 : goal.bounds-out-at-6
 bounds-out-at-6 c = simp length-set (omega (
-      arith,
-      c.requires.i_in_bounds,
-      row_words_lem c.args.table.now c.args.into.now c.args.ups.now c.args.i
-          (λ z. c.if-is_left-eq0.false (c.is_left.ensures.0 ∙ z)),
-    ))
+  arith,
+  c.requires.i_in_bounds,
+  row_words_lem c.args.table.now c.args.into.now c.args.ups.now c.args.i
+      (λ z. c.if-is_left-eq0.false (c.is_left.ensures.0 ∙ z)),
+))
 
 pub shape_of-out : goal.shape_of-out
 shape_of-out c = simp length-set

@@ -1,7 +1,5 @@
 -- `parts::calls::check_request` meets its contract. Assumes nothing.
 use mathlib.Core.Path.{sym, ◌∙◌}
-use borrow.Author.Tests.{not-true, not-false}
-use borrow.Author.Rules.{rules}
 use Rattle.tables.specs.declared.Answer.TheVariants.{Done}
 use Rattle.parts.proofs.Answered.{rules_refused, table_refused, mode_refused, device_refused, request_done}
 use Rattle.parts.proofs.calls.check_request.Goals as goal

@@ -1,6 +1,5 @@
 -- `parts::calls::choose` meets its contract. Assumes nothing.
 use native.Mathlib.Omega.{arith}
-use borrow.Author.Rules.{rules}
 use Rattle.tables.proofs.Accepted.{few_rows}
 use Rattle.parts.proofs.Answered.{one_device, ready, request_refused, short_refused, chooses_refused, chooses_done}
 use Rattle.parts.proofs.calls.choose.Goals as goal

@@ -1,12 +1,7 @@
 -- `parts::calls::first_other` meets its contract. Assumes nothing.
 use Prim.Native.Nat.{◌-◌}
-use mathlib.Core.Path.{ap, ◌∙◌}
-use native.Mathlib.Omega.{arith}
-use borrow.Author.Rules.{rules}
-use Rattle.base.specs.Search.{first}
-use Rattle.base.proofs.Search.{Passed, begin, hit, miss, none}
+use Rattle.base.proofs.Search.{Passed}
 use Rattle.logic.specs.Parts.{other_device}
-use Rattle.parts.proofs.Answered.{is_other, is_same}
 use Rattle.parts.proofs.calls.first_other.Given as goal
 
 abbrev pub invariant-loop-i : goal.invariant-loop-i

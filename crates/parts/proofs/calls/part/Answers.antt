@@ -1,6 +1,5 @@
 -- `parts::calls::part` meets its contract. Assumes nothing.
 use mathlib.Core.Path.{◌∙◌}
-use borrow.Author.Rules.{rules}
 use Rattle.parts.proofs.Answered.{one_vouched, one_answer, one_words}
 use Rattle.parts.proofs.calls.part.Goals as goal
 

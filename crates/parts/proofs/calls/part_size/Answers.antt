@@ -1,6 +1,5 @@
 -- `parts::calls::part_size` meets its contract. Assumes nothing.
 use mathlib.Core.Path.{◌∙◌}
-use borrow.Author.Rules.{rules}
 use Rattle.parts.proofs.Answered.{one_vouched, one_answer}
 use Rattle.parts.proofs.calls.part_size.Goals as goal
 

@@ -1,6 +1,5 @@
 -- `parts::calls::send_chosen` meets its contract. Assumes nothing.
 use mathlib.Core.Path.{sym, ◌∙◌}
-use borrow.Author.Rules.{rules}
 use Rattle.parts.proofs.Answered.{words_fit, out_kept, out_written}
 use Rattle.parts.proofs.calls.send_chosen.Goals as goal
 

@@ -1,6 +1,5 @@
 -- `parts::calls::set_part` meets its contract. Assumes nothing.
 use mathlib.Core.Path.{◌∙◌}
-use borrow.Author.Rules.{rules}
 use Rattle.parts.proofs.Answered.{set_vouched, set_answer, set_words}
 use Rattle.parts.proofs.calls.set_part.Goals as goal
 

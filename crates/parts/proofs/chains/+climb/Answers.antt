@@ -1,11 +1,8 @@
 -- `parts::chains::climb`, which calls itself, meets its contract. Assumes nothing.
-use Prim.Native.Nat.{ℕ, ◌<◌}
-use borrow.Author.Rules.{rules}
 use native.Mathlib.Omega.{arith}
 use Rattle.engine.proofs.Falls.{below}
 use Rattle.parts.proofs.Climbs as climbs
 use mathlib.Core.Path.{refl, sym, ◌∙◌}
-use borrow.Author.Tests.{not-true, not-false}
 use Rattle.parts.proofs.Parentage.{held_le}
 use Rattle.parts.proofs.chains.+climb.Goals as goal
 
@@ -32,12 +29,11 @@ returns-then-r-ne0 t c =
     (sym c.is_named.ensures ∙ c.if-not-is_named.false) c.if-e-eq0.true c.if-r-ne0.true _ c.not_reached-then-r-ne0.ensures
 
 pub reached_from-requires : goal.reached_from-requires
-reached_from-requires t c =
-    (
-      c.requires.limit,
-      climbs.few
-          c.args.rule.now c.args.table.now c.args.parents.now c.args.by.entry c.args.variable c.args.entry c.args.row c.requires,
-    )
+reached_from-requires t c = (
+  c.requires.limit,
+  climbs.few
+      c.args.rule.now c.args.table.now c.args.parents.now c.args.by.entry c.args.variable c.args.entry c.args.row c.requires,
+)
 
 pub returns-then-e-eq0 : goal.returns-then-e-eq0
 returns-then-e-eq0 t c =
@@ -91,25 +87,23 @@ of-requires t c =
     )
 
 pub climb-chain-requires : goal.climb-chain-requires
-climb-chain-requires t c =
-    (
-      below c.decreases (climbs.lower_variable
-          c.args.rule.now c.args.table.now c.args.parents.now c.args.by.entry c.args.variable c.args.entry c.args.row c.requires
-          c.entry_at-e.result c.entry_at-e.ensures c.row_at-r.result c.row_at-r.ensures
-          (sym c.is_named.ensures ∙ c.if-not-is_named.false) c.if-e-eq0.false _ refl c.if-parent-row.false),
-      climbs.climb_ready
-          c.args.rule.now c.args.table.now c.args.parents.now c.args.by.entry c.args.variable c.args.entry c.args.row c.requires
-          c.entry_at-e.result c.entry_at-e.ensures c.row_at-r.result c.row_at-r.ensures
-          (sym c.is_named.ensures ∙ c.if-not-is_named.false) c.if-e-eq0.false _ refl c.if-parent-row.false _ c.of.ensures,
-    )
+climb-chain-requires t c = (
+  below c.decreases (climbs.lower_variable
+      c.args.rule.now c.args.table.now c.args.parents.now c.args.by.entry c.args.variable c.args.entry c.args.row c.requires
+      c.entry_at-e.result c.entry_at-e.ensures c.row_at-r.result c.row_at-r.ensures
+      (sym c.is_named.ensures ∙ c.if-not-is_named.false) c.if-e-eq0.false _ refl c.if-parent-row.false),
+  climbs.climb_ready
+      c.args.rule.now c.args.table.now c.args.parents.now c.args.by.entry c.args.variable c.args.entry c.args.row c.requires
+      c.entry_at-e.result c.entry_at-e.ensures c.row_at-r.result c.row_at-r.ensures
+      (sym c.is_named.ensures ∙ c.if-not-is_named.false) c.if-e-eq0.false _ refl c.if-parent-row.false _ c.of.ensures,
+)
 
 pub reached_from-requires-then-chain : goal.reached_from-requires-then-chain
-reached_from-requires-then-chain t c =
-    (
-      c.requires.limit,
-      climbs.few
-          c.args.rule.now c.args.table.now c.args.parents.now c.args.by.entry c.args.variable c.args.entry c.args.row c.requires,
-    )
+reached_from-requires-then-chain t c = (
+  c.requires.limit,
+  climbs.few
+      c.args.rule.now c.args.table.now c.args.parents.now c.args.by.entry c.args.variable c.args.entry c.args.row c.requires,
+)
 
 pub returns-then-chain : goal.returns-then-chain
 returns-then-chain t c =

@@ -1,5 +1,4 @@
 -- `parts::chains::climb`, which calls itself, meets its contract. Assumes nothing.
-use Prim.Native.Nat.{ℕ, ◌<◌}
 use Rattle.parts.proofs.chains.+climb.Given as goal
 
 abbrev pub decreases-climb : goal.decreases-climb

@@ -1,6 +1,5 @@
 -- `parts::chains::not_reached` meets its contract. Assumes nothing.
 use mathlib.Core.Bool.{false}
-use borrow.Author.Rules.{rules}
 use Rattle.parts.proofs.chains.not_reached.Goals as goal
 
 pub returns : goal.returns

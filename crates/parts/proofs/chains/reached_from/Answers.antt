@@ -1,6 +1,5 @@
 -- `parts::chains::reached_from` meets its contract. Assumes nothing.
 use mathlib.Core.Bool.{true}
-use borrow.Author.Rules.{rules}
 use Rattle.parts.proofs.chains.reached_from.Goals as goal
 
 pub returns : goal.returns

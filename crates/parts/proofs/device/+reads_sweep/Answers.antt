@@ -1,8 +1,6 @@
 -- `parts::device::reads` and `sweep`, which call each other, meet their contracts. Assumes nothing.
-use Prim.Native.Nat.{ℕ, ◌<◌, ◌+◌, ◌-◌, ◌/◌}
-use borrow.Author.Rules.{rules}
+use Prim.Native.Nat.{◌+◌, ◌-◌, ◌/◌}
 use native.Mathlib.Omega.{arith}
-use Rattle.engine.proofs.Falls.{entry_measure, rows_measure}
 use Rattle.engine.proofs.Ranged.{place_inside}
 use Rattle.parts.proofs.Steps as steps
 use Rattle.parts.proofs.Quantifiers as quantifiers

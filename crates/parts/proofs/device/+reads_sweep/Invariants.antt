@@ -1,5 +1,4 @@
 -- `parts::device::reads` and `sweep`, which call each other, meet their contracts. Assumes nothing.
-use Prim.Native.Nat.{ℕ, ◌<◌, ◌+◌, ◌-◌, ◌/◌}
 use Rattle.engine.proofs.Falls.{entry_measure, rows_measure}
 use Rattle.parts.proofs.device.+reads_sweep.Given as goal
 

@@ -1,6 +1,5 @@
 -- `parts::device::compared` meets its contract. Assumes nothing.
 use native.Mathlib.Omega.{arith}
-use borrow.Author.Rules.{rules}
 use Rattle.parts.proofs.Comparing.{left_elsewhere, with_constant, right_elsewhere, with_variable}
 use Rattle.parts.proofs.device.compared.Goals as goal
 

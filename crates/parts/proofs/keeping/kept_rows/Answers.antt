@@ -1,8 +1,6 @@
 -- `parts::keeping::kept_rows` meets its contract. The loop's invariant: the bytes of the rows passed say which of them stay. Assumes nothing.
-use Prim.Native.Nat.{◌-◌, ◌≤◌}
 use mathlib.Core.Path.{refl, sym, subst}
 use native.Mathlib.Omega.{arith}
-use borrow.Author.Rules.{rules}
 use Rattle.tables.proofs.Accepted.{few_rows}
 use Rattle.logic.specs.Formulas.{formulas_of}
 use Rattle.parts.specs.Keeping.{Keeps}
@@ -41,11 +39,11 @@ slice_bounds-kept_byte-end-in-loop-i-2 c = sym c.loop-i.invariant.0.sized
 
 pub kept_byte-requires-clause-ready_row : goal.kept_byte-requires-clause-ready_row
 kept_byte-requires-clause-ready_row c = record {
-        ready = c.requires;
-        has_parents = c.find_parents.ensures;
-        kept_before = c.loop-i.invariant.0;
-        row_inside = omega (arith, c.loop-i-test.true, c.row_count-n.ensures);
-      }
+  ready = c.requires;
+  has_parents = c.find_parents.ensures;
+  kept_before = c.loop-i.invariant.0;
+  row_inside = omega (arith, c.loop-i-test.true, c.row_count-n.ensures);
+}
 
 pub kept_byte-requires-clause-ends : goal.kept_byte-requires-clause-ends
 kept_byte-requires-clause-ends c = c.find_ends.ensures

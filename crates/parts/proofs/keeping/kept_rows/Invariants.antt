@@ -1,12 +1,7 @@
 -- `parts::keeping::kept_rows` meets its contract. The loop's invariant: the bytes of the rows passed say which of them stay. Assumes nothing.
 use Prim.Native.Nat.{◌-◌, ◌≤◌}
-use mathlib.Core.Path.{refl, sym, subst}
-use native.Mathlib.Omega.{arith}
-use borrow.Author.Rules.{rules}
-use Rattle.tables.proofs.Accepted.{few_rows}
 use Rattle.logic.specs.Formulas.{formulas_of}
 use Rattle.parts.specs.Keeping.{Keeps}
-use Rattle.parts.proofs.Seeking.{fill_begin, fill_more}
 use Rattle.parts.proofs.keeping.kept_rows.Given as goal
 
 abbrev pub invariant-loop-i : goal.invariant-loop-i

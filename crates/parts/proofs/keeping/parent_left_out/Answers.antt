@@ -1,6 +1,5 @@
 -- `parts::keeping::parent_left_out` meets its contract. Assumes nothing.
 use Rattle.parts.proofs.Staying.{own_parent, other_parent}
-use borrow.Author.Rules.{rules}
 use Rattle.parts.proofs.keeping.parent_left_out.Goals as goal
 
 pub returns-then-parent-row : goal.returns-then-parent-row

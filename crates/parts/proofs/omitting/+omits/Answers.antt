@@ -1,8 +1,5 @@
 -- `parts::omitting::omits`, which calls itself, meets its contract. Assumes nothing.
-use Prim.Native.Nat.{ℕ, ◌<◌, ◌-◌}
-use borrow.Author.Rules.{rules}
 use native.Mathlib.Omega.{arith}
-use Rattle.tables.specs.Words.{entry_count}
 use Rattle.parts.proofs.Omits as laws
 use Rattle.parts.proofs.omitting.+omits.Goals as goal
 

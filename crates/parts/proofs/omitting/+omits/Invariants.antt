@@ -1,5 +1,5 @@
 -- `parts::omitting::omits`, which calls itself, meets its contract. Assumes nothing.
-use Prim.Native.Nat.{ℕ, ◌<◌, ◌-◌}
+use Prim.Native.Nat.{◌-◌}
 use Rattle.tables.specs.Words.{entry_count}
 use Rattle.parts.proofs.omitting.+omits.Given as goal
 

@@ -1,12 +1,8 @@
 -- `parts::omitting::omits_each` meets its contract. The loop's invariant: what is left to ask is that of the rules left. Assumes nothing.
-use Prim.Native.Nat.{◌-◌}
 use mathlib.Core.Path.{refl}
 use native.Mathlib.Omega.{arith}
-use lib.ListN.{length}
-use borrow.Author.Tests.{not-true, not-false}
-use borrow.Author.Rules.{rules}
 use Rattle.sets.proofs.Sets.{rule_inside, rule_is}
-use Rattle.parts.proofs.Each.{Asks, ask_begin, ask_ready, ask_needed, ask_more, ask_end}
+use Rattle.parts.proofs.Each.{ask_begin, ask_ready, ask_needed, ask_more, ask_end}
 use Rattle.parts.proofs.omitting.omits_each.Goals as goal
 
 pub loop-i-init : goal.loop-i-init

@@ -1,9 +1,8 @@
 -- `parts::parents::find_ends` meets its contract. Assumes nothing.
-use Prim.Native.Nat.{◌-◌, ◌<◌, ◌≤◌}
+use Prim.Native.Nat.{◌<◌}
 use Rattle.tables.specs.Words.{row_count}
 use mathlib.Core.Path.{subst, sym, ◌∙◌}
 use native.Mathlib.Omega.{arith}
-use borrow.Author.Rules.{rules}
 use Rattle.parts.specs.Reaching.{EndsWithin}
 use Rattle.parts.proofs.Endings.{ends_begin, few, parent_before, sized_once, ends_more}
 use Rattle.parts.proofs.parents.find_ends.Goals as goal

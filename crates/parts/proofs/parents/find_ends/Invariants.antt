@@ -1,11 +1,6 @@
 -- `parts::parents::find_ends` meets its contract. Assumes nothing.
-use Prim.Native.Nat.{◌-◌, ◌<◌, ◌≤◌}
-use Rattle.tables.specs.Words.{row_count}
-use mathlib.Core.Path.{subst, sym, ◌∙◌}
-use native.Mathlib.Omega.{arith}
-use borrow.Author.Rules.{rules}
+use Prim.Native.Nat.{◌-◌, ◌≤◌}
 use Rattle.parts.specs.Reaching.{EndsWithin}
-use Rattle.parts.proofs.Endings.{ends_begin, few, parent_before, sized_once, ends_more}
 use Rattle.parts.proofs.parents.find_ends.Given as goal
 
 abbrev pub invariant-loop-i : goal.invariant-loop-i

@@ -1,9 +1,8 @@
 -- `parts::parents::find_parents` meets its contract. Assumes nothing.
-use Prim.Native.Nat.{◌-◌, ◌<◌, ◌≤◌}
+use Prim.Native.Nat.{◌<◌}
 use Rattle.tables.specs.Words.{row_count}
 use mathlib.Core.Path.{subst, sym, ◌∙◌}
 use native.Mathlib.Omega.{arith}
-use borrow.Author.Rules.{rules}
 use Rattle.tables.proofs.Accepted.{few_rows}
 use Rattle.parts.specs.Reaching.{parent_of, Holds}
 use Rattle.parts.proofs.Parentage.{parent_le}

@@ -1,13 +1,6 @@
 -- `parts::parents::find_parents` meets its contract. Assumes nothing.
-use Prim.Native.Nat.{◌-◌, ◌<◌, ◌≤◌}
-use Rattle.tables.specs.Words.{row_count}
-use mathlib.Core.Path.{subst, sym, ◌∙◌}
-use native.Mathlib.Omega.{arith}
-use borrow.Author.Rules.{rules}
-use Rattle.tables.proofs.Accepted.{few_rows}
+use Prim.Native.Nat.{◌-◌, ◌≤◌}
 use Rattle.parts.specs.Reaching.{parent_of, Holds}
-use Rattle.parts.proofs.Parentage.{parent_le}
-use Rattle.parts.proofs.Seeking.{fill_begin, fill_more}
 use Rattle.parts.proofs.parents.find_parents.Given as goal
 
 abbrev pub invariant-loop-i : goal.invariant-loop-i

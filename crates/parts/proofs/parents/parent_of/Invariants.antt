@@ -1,9 +1,6 @@
 -- `parts::parents::parent_of` meets its contract. Assumes nothing.
 use Prim.Native.Nat.{◌-◌}
-use mathlib.Core.Path.{sym, ap, ◌∙◌}
-use native.Mathlib.Omega.{arith}
-use Rattle.tables.specs.declared.Row.{Row}
-use Rattle.parts.proofs.Seeking.{Seeks, seek_begin, seek_up, seek_down, seek_none, seek_found, seek_other}
+use Rattle.parts.proofs.Seeking.{Seeks}
 use Rattle.parts.proofs.parents.parent_of.Given as goal
 
 abbrev pub invariant-loop-low : goal.invariant-loop-low

@@ -1,9 +1,8 @@
 -- `parts::ranges::next_ranged` meets its contract. Assumes nothing.
-use Prim.Native.Nat.{◌+◌, ◌-◌}
+use Prim.Native.Nat.{◌+◌}
 use mathlib.Core.Path.{sym, ap, ◌∙◌}
 use native.Mathlib.Omega.{arith}
-use Rattle.base.proofs.Search.{Passed, begin, hit, miss, none}
-use Rattle.engine.specs.Ready.{ranged_at}
+use Rattle.base.proofs.Search.{begin, hit, miss, none}
 use Rattle.parts.proofs.ranges.next_ranged.Goals as goal
 
 pub loop-i-init : goal.loop-i-init

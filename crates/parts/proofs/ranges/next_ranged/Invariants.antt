@@ -1,8 +1,6 @@
 -- `parts::ranges::next_ranged` meets its contract. Assumes nothing.
 use Prim.Native.Nat.{◌+◌, ◌-◌}
-use mathlib.Core.Path.{sym, ap, ◌∙◌}
-use native.Mathlib.Omega.{arith}
-use Rattle.base.proofs.Search.{Passed, begin, hit, miss, none}
+use Rattle.base.proofs.Search.{Passed}
 use Rattle.engine.specs.Ready.{ranged_at}
 use Rattle.parts.proofs.ranges.next_ranged.Given as goal
 

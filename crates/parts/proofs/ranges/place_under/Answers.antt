@@ -1,6 +1,5 @@
 -- `parts::ranges::place_under` meets its contract. Assumes nothing.
 use Rattle.engine.proofs.Ranged.{place_named}
-use borrow.Author.Rules.{rules}
 use Rattle.parts.proofs.ranges.place_under.Goals as goal
 
 pub returns : goal.returns

@@ -1,8 +1,6 @@
 -- `parts::ranges::ranged` meets its contract. Assumes nothing.
 use mathlib.Core.Path.{sym, ◌∙◌}
-use borrow.Author.Tests.{not-true, not-false}
 use Rattle.engine.proofs.Ranged.{not_hanging, by_name}
-use borrow.Author.Rules.{rules}
 use Rattle.parts.proofs.ranges.ranged.Goals as goal
 
 pub returns-then-not-hangs_at : goal.returns-then-not-hangs_at

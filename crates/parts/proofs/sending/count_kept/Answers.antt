@@ -1,6 +1,5 @@
 -- `parts::sending::count_kept` meets its contract. Assumes nothing.
-use mathlib.Core.Path.{ap, ◌∙◌, ◌≡◌, refl}
-use Prim.Native.Nat.{◌-◌, ◌≤◌, ◌*◌}
+use mathlib.Core.Path.{ap, ◌∙◌, refl}
 use native.Mathlib.Omega.{arith}
 use lib.ListN.{get_or}
 use Rattle.base.specs.Search.{sum_below}

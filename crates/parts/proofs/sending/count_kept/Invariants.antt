@@ -1,10 +1,8 @@
 -- `parts::sending::count_kept` meets its contract. Assumes nothing.
-use mathlib.Core.Path.{ap, ◌∙◌, ◌≡◌, refl}
+use mathlib.Core.Path.{◌≡◌}
 use Prim.Native.Nat.{◌-◌, ◌≤◌, ◌*◌}
-use native.Mathlib.Omega.{arith}
 use lib.ListN.{get_or}
 use Rattle.base.specs.Search.{sum_below}
-use Rattle.parts.proofs.Sent.{sum_more}
 use Rattle.parts.proofs.sending.count_kept.Given as goal
 
 abbrev pub invariant-loop-i : goal.invariant-loop-i

@@ -1,13 +1,12 @@
 -- `parts::sending::send` meets its contract. Assumes nothing.
-use Prim.Native.Nat.{ℕ, ◌-◌}
+use Prim.Native.Nat.{ℕ}
 use mathlib.Core.Path.{ap, ◌∙◌}
 use native.Mathlib.Omega.{arith}
-use borrow.Author.Rules.{rules}
 use lib.ListN.{length}
 use lib.Seq.{sets}
 use Rattle.logic.specs.Parts.{words_of}
 use Rattle.parts.specs.Sending.{rows_sent}
-use Rattle.parts.proofs.Sent.{Sends, send_begin, row_room, send_more, send_end}
+use Rattle.parts.proofs.Sent.{send_begin, row_room, send_more, send_end}
 use Rattle.parts.proofs.sending.send.Goals as goal
 
 pub loop-i-init : goal.loop-i-init

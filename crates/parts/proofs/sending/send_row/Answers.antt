@@ -4,7 +4,6 @@ use mathlib.Core.Path.{sym, ap}
 use native.Mathlib.Omega.{arith}
 use lib.ListN.{length-set}
 use Rattle.parts.proofs.Sent.{row_words_lem, row_written, send_nothing}
-use borrow.Author.Rules.{rules}
 use Rattle.parts.proofs.sending.send_row.Goals as goal
 
 pub returns-then-keep-eq0-clause-value : goal.returns-then-keep-eq0-clause-value

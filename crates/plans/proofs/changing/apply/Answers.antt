@@ -1,6 +1,5 @@
 -- `plans::changing::apply` meets its contract. Assumes nothing.
 use Rattle.plans.proofs.Splices.{step_placed, apply_done, apply_refused}
-use borrow.Author.Rules.{rules}
 use Rattle.plans.proofs.changing.apply.Goals as goal
 
 pub put_step-requires : goal.put_step-requires

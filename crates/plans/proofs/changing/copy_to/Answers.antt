@@ -1,9 +1,6 @@
 -- `plans::changing::copy_to` meets its contract. Assumes nothing.
-use Prim.Native.Nat.{◌-◌}
-use lib.ListN.{length}
 use native.Mathlib.Omega.{arith}
-use Rattle.base.proofs.Copies.{Copying, copy_begin, copy_more, copy_end}
-use borrow.Author.Rules.{rules}
+use Rattle.base.proofs.Copies.{copy_begin, copy_more, copy_end}
 use Rattle.plans.proofs.changing.copy_to.Goals as goal
 
 pub loop-i-init : goal.loop-i-init

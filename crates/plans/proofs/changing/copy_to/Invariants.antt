@@ -1,9 +1,7 @@
 -- `plans::changing::copy_to` meets its contract. Assumes nothing.
 use Prim.Native.Nat.{◌-◌}
 use lib.ListN.{length}
-use native.Mathlib.Omega.{arith}
-use Rattle.base.proofs.Copies.{Copying, copy_begin, copy_more, copy_end}
-use borrow.Author.Rules.{rules}
+use Rattle.base.proofs.Copies.{Copying}
 use Rattle.plans.proofs.changing.copy_to.Given as goal
 
 abbrev pub invariant-loop-i : goal.invariant-loop-i

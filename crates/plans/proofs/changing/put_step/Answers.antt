@@ -1,9 +1,8 @@
 -- `plans::changing::put_step` meets its contract. Assumes nothing.
-use mathlib.Core.Path.{ap, sym, refl}
+use mathlib.Core.Path.{ap, sym}
 use native.Mathlib.Omega.{arith}
 use lib.ListN.{length}
 use Rattle.plans.proofs.Splices.{step_words_lem, place_inside, row_there, set_is, add_is, remove_is, writes_after, set_no_add}
-use borrow.Author.Rules.{rules}
 use Rattle.plans.proofs.changing.put_step.Goals as goal
 
 pub overflow_mul-before : goal.overflow_mul-before

@@ -3,12 +3,11 @@ use mathlib.Core.Path.{refl, sym}
 use native.Mathlib.Omega.{arith}
 use lib.Seq.{length-take-le}
 use Rattle.plans.proofs.Splices.{behind_length, splice_short, splice_fits, splice_words}
-use borrow.Author.Rules.{rules}
 use Rattle.plans.proofs.changing.splice.Goals as goal
 
 pub returns-then-out-words-clause-value : goal.returns-then-out-words-clause-value
 returns-then-out-words-clause-value c = splice_short c.args.table.now c.args.before c.args.middle.now c.args.behind c.requires.0
-          c.requires.1 c.args.out.now c.if-out-words.true
+    c.requires.1 c.args.out.now c.if-out-words.true
 
 pub returns-then-out-words-clause-out_after : goal.returns-then-out-words-clause-out_after
 returns-then-out-words-clause-out_after c = refl
@@ -27,8 +26,8 @@ copy_to-requires-3 c = omega (arith, c.if-out-words.false, c.copy_to.auto.out, c
 
 pub returns-clause-value : goal.returns-clause-value
 returns-clause-value c = splice_fits c.args.table.now c.args.before c.args.middle.now c.args.behind c.requires.0
-          c.requires.1 c.args.out.now c.if-out-words.false
+    c.requires.1 c.args.out.now c.if-out-words.false
 
 pub returns-clause-out_after : goal.returns-clause-out_after
 returns-clause-out_after c = splice_words c.args.table.now c.args.before c.args.middle.now c.args.behind c.requires.0 c.requires.1 c.args.out.now c.if-out-words.false c.copy_to.ensures
-          c.copy_to-2.ensures c.copy_to-3.ensures
+    c.copy_to-2.ensures c.copy_to-3.ensures

@@ -1,11 +1,7 @@
 -- `plans::steps::has_under` meets its contract. Assumes nothing.
-use Prim.Native.Nat.{◌-◌}
 use native.Mathlib.Omega.{arith}
-use Rattle.base.proofs.Search.{Passed, begin, miss, found, found_none}
-use Rattle.tables.specs.Words.{row_at}
-use Rattle.tables.specs.Tables.{is_parent}
+use Rattle.base.proofs.Search.{begin, miss, found, found_none}
 use Rattle.plans.proofs.Finding.{under_here}
-use borrow.Author.Rules.{rules}
 use Rattle.plans.proofs.steps.has_under.Goals as goal
 
 pub loop-i-init : goal.loop-i-init

@@ -1,11 +1,8 @@
 -- `plans::steps::has_under` meets its contract. Assumes nothing.
 use Prim.Native.Nat.{◌-◌}
-use native.Mathlib.Omega.{arith}
-use Rattle.base.proofs.Search.{Passed, begin, miss, found, found_none}
+use Rattle.base.proofs.Search.{Passed}
 use Rattle.tables.specs.Words.{row_at}
 use Rattle.tables.specs.Tables.{is_parent}
-use Rattle.plans.proofs.Finding.{under_here}
-use borrow.Author.Rules.{rules}
 use Rattle.plans.proofs.steps.has_under.Given as goal
 
 abbrev pub invariant-loop-i : goal.invariant-loop-i

@@ -1,7 +1,6 @@
 -- `plans::steps::is_step` meets its contract. Assumes nothing.
 use Rattle.plans.proofs.Finding.{lacking, having}
 use native.Mathlib.Omega.{arith}
-use borrow.Author.Rules.{rules}
 use Rattle.plans.proofs.steps.is_step.Goals as goal
 
 pub returns-then-step-lt-STEP_WORDS : goal.returns-then-step-lt-STEP_WORDS

@@ -1,13 +1,9 @@
 -- `plans::steps::place_for` meets its contract. Assumes nothing.
 use mathlib.Core.Path.{ap}
-use Prim.Native.Nat.{◌-◌}
 use mathlib.Core.Bool.{not}
 use native.Mathlib.Omega.{arith}
-use Rattle.base.proofs.Search.{Passed, begin, hit, miss, none}
-use Rattle.tables.specs.Words.{row_at}
-use Rattle.tables.specs.Tables.{is_above}
+use Rattle.base.proofs.Search.{begin, hit, miss, none}
 use Rattle.plans.proofs.Finding.{above_here}
-use borrow.Author.Rules.{rules}
 use Rattle.plans.proofs.steps.place_for.Goals as goal
 
 pub loop-i-init : goal.loop-i-init

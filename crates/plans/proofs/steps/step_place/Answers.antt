@@ -3,7 +3,6 @@ use mathlib.Core.Bool.{not}
 use mathlib.Core.Path.{ap}
 use native.Mathlib.Omega.{arith}
 use Rattle.plans.proofs.Finding.{no_step, has_words, row_missing, rows_under, step_passes}
-use borrow.Author.Rules.{rules}
 use Rattle.plans.proofs.steps.step_place.Goals as goal
 
 pub returns-then-not-is_step : goal.returns-then-not-is_step

@@ -1,5 +1,4 @@
 -- `tables::columns::byte_after` meets its contract. Assumes nothing.
-use borrow.Author.Rules.{rules}
 use borrow.Author.Tests.{eq-eqb, ne_eqb}
 use Rattle.tables.specs.Files.{byte_after}
 use Rattle.tables.proofs.columns.byte_after.Goals as goal

@@ -1,6 +1,5 @@
 -- `tables::columns::may_sign` meets its contract. Assumes nothing.
 use mathlib.Core.Path.{refl}
-use borrow.Author.Rules.{rules}
 use Rattle.tables.proofs.columns.may_sign.Goals as goal
 
 pub returns : goal.returns

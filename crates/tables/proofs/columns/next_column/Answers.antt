@@ -1,6 +1,5 @@
 -- `tables::columns::next_column` meets its contract. Assumes nothing.
 use native.Mathlib.Omega.{arith}
-use borrow.Author.Rules.{rules}
 use borrow.Author.Tests.{eq-eqb, ne_eqb}
 use Rattle.tables.proofs.columns.next_column.Goals as goal
 

@@ -1,6 +1,5 @@
 -- `tables::columns::tells` meets its contract. Assumes nothing.
 use borrow.Author.Tests.{eq-eqb, ne_eqb}
-use borrow.Author.Rules.{rules}
 use Rattle.tables.proofs.columns.tells.Goals as goal
 
 pub returns-then-c-eq-KIND : goal.returns-then-c-eq-KIND

@@ -1,6 +1,5 @@
 -- `tables::columns::told_next` meets its contract. Assumes nothing.
 use borrow.Author.Tests.{eq-eqb, ne_eqb}
-use borrow.Author.Rules.{rules}
 use Rattle.tables.proofs.columns.told_next.Goals as goal
 
 pub returns-then-c-k : goal.returns-then-c-k

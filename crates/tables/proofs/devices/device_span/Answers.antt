@@ -3,7 +3,6 @@ use mathlib.Core.Path.{ap, sym, ◌∙◌}
 use native.Mathlib.Omega.{arith}
 use Rattle.tables.specs.Answers.{is_done}
 use Rattle.tables.proofs.Parting.{a_le, b_le, some_rows, no_rows, no_table}
-use borrow.Author.Rules.{rules}
 use Rattle.tables.proofs.devices.device_span.Goals as goal
 
 pub overflow_mul-result : goal.overflow_mul-result

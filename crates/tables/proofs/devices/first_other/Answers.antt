@@ -1,11 +1,9 @@
 -- `tables::devices::first_other` meets its contract. Assumes nothing.
-use Prim.Native.Nat.{◌-◌}
 use mathlib.Core.Path.{ap}
 use mathlib.Core.Bool.{not}
 use native.Mathlib.Omega.{arith}
 use borrow.Author.Tests.{eq-eqb, ne_eqb}
-use Rattle.base.proofs.Search.{Passed, begin, hit, miss, none}
-use Rattle.tables.specs.Tables.{other_device}
+use Rattle.base.proofs.Search.{begin, hit, miss, none}
 use Rattle.tables.proofs.devices.first_other.Goals as goal
 
 pub loop-i-init : goal.loop-i-init

@@ -1,10 +1,6 @@
 -- `tables::devices::first_other` meets its contract. Assumes nothing.
 use Prim.Native.Nat.{◌-◌}
-use mathlib.Core.Path.{ap}
-use mathlib.Core.Bool.{not}
-use native.Mathlib.Omega.{arith}
-use borrow.Author.Tests.{eq-eqb, ne_eqb}
-use Rattle.base.proofs.Search.{Passed, begin, hit, miss, none}
+use Rattle.base.proofs.Search.{Passed}
 use Rattle.tables.specs.Tables.{other_device}
 use Rattle.tables.proofs.devices.first_other.Given as goal
 

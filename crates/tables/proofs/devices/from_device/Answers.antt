@@ -1,12 +1,9 @@
 -- `tables::devices::from_device` meets its contract. Assumes nothing.
-use Prim.Native.Nat.{◌-◌}
 use mathlib.Core.Path.{ap, sym, ◌∙◌}
 use lib.Dec.{leb}
 use native.Mathlib.Omega.{arith}
-use borrow.Author.Rules.{rules}
 use borrow.Author.Tests.{le-leb, lt-leb}
-use Rattle.base.proofs.Search.{Passed, begin, hit, miss, none}
-use Rattle.tables.specs.Words.{row_at}
+use Rattle.base.proofs.Search.{begin, hit, miss, none}
 use Rattle.tables.proofs.devices.from_device.Goals as goal
 
 pub loop-i-init : goal.loop-i-init

@@ -1,11 +1,7 @@
 -- `tables::devices::from_device` meets its contract. Assumes nothing.
 use Prim.Native.Nat.{◌-◌}
-use mathlib.Core.Path.{ap, sym, ◌∙◌}
 use lib.Dec.{leb}
-use native.Mathlib.Omega.{arith}
-use borrow.Author.Rules.{rules}
-use borrow.Author.Tests.{le-leb, lt-leb}
-use Rattle.base.proofs.Search.{Passed, begin, hit, miss, none}
+use Rattle.base.proofs.Search.{Passed}
 use Rattle.tables.specs.Words.{row_at}
 use Rattle.tables.proofs.devices.from_device.Given as goal
 

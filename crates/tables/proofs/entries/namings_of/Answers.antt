@@ -1,6 +1,5 @@
 -- `tables::entries::namings_of` meets its contract. Assumes nothing.
 use native.Mathlib.Omega.{arith}
-use borrow.Author.Rules.{rules}
 use Rattle.tables.proofs.entries.namings_of.Goals as goal
 
 pub returns-then-right-clause-value : goal.returns-then-right-clause-value

@@ -1,7 +1,6 @@
 -- `tables::entries::quantifiers_around` meets its contract. Assumes nothing.
 use native.Mathlib.Omega.{arith}
-use borrow.Author.Rules.{rules}
-use Rattle.tables.proofs.Nesting.{Climbs, climb_begin, climb_child, climb_other, climb_end}
+use Rattle.tables.proofs.Nesting.{climb_begin, climb_child, climb_other, climb_end}
 use Rattle.tables.proofs.entries.quantifiers_around.Goals as goal
 
 pub loop-i-init : goal.loop-i-init

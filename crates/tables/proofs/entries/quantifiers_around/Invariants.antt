@@ -1,7 +1,5 @@
 -- `tables::entries::quantifiers_around` meets its contract. Assumes nothing.
-use native.Mathlib.Omega.{arith}
-use borrow.Author.Rules.{rules}
-use Rattle.tables.proofs.Nesting.{Climbs, climb_begin, climb_child, climb_other, climb_end}
+use Rattle.tables.proofs.Nesting.{Climbs}
 use Rattle.tables.proofs.entries.quantifiers_around.Given as goal
 
 abbrev pub invariant-loop-i : goal.invariant-loop-i

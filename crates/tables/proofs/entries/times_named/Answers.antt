@@ -1,10 +1,7 @@
 -- `tables::entries::times_named` meets its contract. Assumes nothing.
-use Prim.Native.Nat.{◌-◌}
 use mathlib.Core.Path.{ap, ◌∙◌}
 use native.Mathlib.Omega.{arith}
-use borrow.Author.Rules.{rules}
-use Rattle.base.proofs.Sums.{Summed, sum_begin, sum_more, sum_end}
-use Rattle.tables.specs.Words.{entry_at}
+use Rattle.base.proofs.Sums.{sum_begin, sum_more, sum_end}
 use Rattle.tables.specs.Rules.{namings}
 use Rattle.tables.specs.declared.Entry.{Entry}
 use Rattle.tables.proofs.entries.times_named.Goals as goal

@@ -1,6 +1,5 @@
 -- `tables::joining::fits_behind` meets its contract. Assumes nothing.
 use Rattle.tables.proofs.Joins.{follows_empty, follows_none, follows_above}
-use borrow.Author.Rules.{rules}
 use Rattle.tables.proofs.joining.fits_behind.Goals as goal
 
 pub returns-then-m-eq0 : goal.returns-then-m-eq0

@@ -2,7 +2,6 @@
 use mathlib.Core.Path.{sym}
 use lib.Seq.{length-take-le}
 use Rattle.tables.proofs.Joins.{over_used, kept, copy_fits, written}
-use borrow.Author.Rules.{rules}
 use Rattle.tables.proofs.joining.join.Goals as goal
 
 pub returns-then-pool-used-clause-answer : goal.returns-then-pool-used-clause-answer

@@ -1,9 +1,7 @@
 -- `tables::joining::join_tables` meets its contract. Assumes nothing.
 use mathlib.Core.Path.{sym, ◌∙◌}
 use native.Mathlib.Omega.{arith}
-use borrow.Author.Tests.{not-true, not-false}
 use Rattle.tables.proofs.Joins.{short, rows_whole, refused_first, refused_second, refused_16, refused_8, refused_12, refused_17, joined}
-use borrow.Author.Rules.{rules}
 use Rattle.tables.proofs.joining.join_tables.Goals as goal
 
 pub returns-in-Refused : goal.returns-in-Refused

@@ -1,6 +1,5 @@
 -- `tables::links::hash_of` meets its contract. Assumes nothing.
 use Rattle.tables.specs.Links.{hash_of}
-use borrow.Author.Rules.{rules}
 use Rattle.tables.proofs.links.hash_of.Goals as goal
 
 pub returns : goal.returns

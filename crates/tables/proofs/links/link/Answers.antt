@@ -1,7 +1,6 @@
 -- `tables::links::link` meets its contract. Assumes nothing.
 use mathlib.Core.Path.{refl}
 use native.Mathlib.Omega.{arith}
-use borrow.Author.Rules.{rules}
 use Rattle.tables.proofs.links.link.Goals as goal
 
 pub offset_bounds-head-h : goal.offset_bounds-head-h

@@ -1,6 +1,5 @@
 -- `tables::parents::fits_parent` meets its contract. Assumes nothing.
 use Rattle.tables.specs.Links.{fits_parent}
-use borrow.Author.Rules.{rules}
 use Rattle.tables.proofs.parents.fits_parent.Goals as goal
 
 pub returns : goal.returns

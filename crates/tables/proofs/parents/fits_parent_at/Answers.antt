@@ -1,5 +1,4 @@
 -- `tables::parents::fits_parent_at` meets its contract. Assumes nothing.
-use borrow.Author.Rules.{rules}
 use mathlib.Core.Path.{ap, ◌∙◌}
 use Rattle.tables.specs.Words.{row_at}
 use Rattle.tables.specs.Links.{fits_parent}

@@ -1,13 +1,7 @@
 -- `tables::parents::has_parent` meets its contract. Assumes nothing.
-use Prim.Native.Nat.{◌<◌}
-use mathlib.Core.Path.{sym, ap, ◌∙◌}
-use native.Mathlib.Omega.{arith}
-use borrow.Author.Rules.{rules}
 use Rattle.tables.specs.Words.{row_at}
-use Rattle.tables.specs.Links.{hashes}
 use Rattle.tables.specs.Links.{place_hash, places_at, fits_parent}
-use Rattle.tables.proofs.Linked.{Seeks, seek_begin, seek_next, seek_falls, seek_hit, seek_rest, seek_end, head_le, last_is}
-use Rattle.tables.proofs.ParentFaults.{place_below, parent_hash}
+use Rattle.tables.proofs.Linked.{Seeks}
 use Rattle.tables.proofs.parents.has_parent.Given as goal
 
 abbrev pub invariant-loop-at : goal.invariant-loop-at

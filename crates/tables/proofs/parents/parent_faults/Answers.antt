@@ -1,14 +1,13 @@
 -- `tables::parents::parent_faults` meets its contract: a search for 11 that notes the first 26. Assumes nothing.
-use Prim.Native.Nat.{ℕ, ◌-◌, ◌+◌, ◌<◌}
+use Prim.Native.Nat.{ℕ, ◌+◌, ◌<◌}
 use mathlib.Core.Path.{sym, ap, subst, ◌∙◌}
 use native.Mathlib.Omega.{arith}
-use borrow.Author.Rules.{rules}
 use Rattle.base.proofs.Search.{none}
-use Rattle.tables.specs.Tables.{no_parent, wrong_depth}
+use Rattle.tables.specs.Tables.{wrong_depth}
 use Rattle.tables.specs.declared.Row.{Row}
 use Rattle.tables.specs.Links.{hashes}
-use Rattle.tables.specs.Links.{place_hash, places_at}
-use Rattle.tables.proofs.Linked.{Looking, look_begin, look_hit, look_more}
+use Rattle.tables.specs.Links.{place_hash}
+use Rattle.tables.proofs.Linked.{look_begin, look_hit, look_more}
 use Rattle.tables.proofs.ParentFaults.{place_below, Noted, note_begin, note_more, note_end, number_11, has_parent, number_26}
 use Rattle.tables.proofs.parents.parent_faults.Goals as goal
 
@@ -29,9 +28,9 @@ parent_number-number-requires-clause-linked c = c.loop-i.invariant.0.linked
 
 pub returns-then-number-eq11 : goal.returns-then-number-eq11
 returns-then-number-eq11 c = record {
-      parent_is = look_hit c.loop-i.invariant.0 c.loop-i-test.true (number_11 c.args.t.now _ _ c.parent_number-number.ensures c.if-number-eq11.true);
-      depth_is = λ h. absurd (omega (arith, h, c.loop-i-test.true));
-    }
+  parent_is = look_hit c.loop-i.invariant.0 c.loop-i-test.true (number_11 c.args.t.now _ _ c.parent_number-number.ensures c.if-number-eq11.true);
+  depth_is = λ h. absurd (omega (arith, h, c.loop-i-test.true));
+}
 
 pub link-requires-clause-h_in_bounds : goal.link-requires-clause-h_in_bounds
 link-requires-clause-h_in_bounds c = let below = place_below c.row_at-r.result.device c.row_at-r.result.at in omega (arith, below, c.place_hash-h.ensures, c.loop-i.invariant.0.heads.long)
@@ -61,6 +60,6 @@ loop-i-preserved c = let r = c.row_at-r.result in
 
 pub returns : goal.returns
 returns c = record {
-      parent_is = none _ _ _ c.loop-i.invariant.0.passed c.loop-i-test.false;
-      depth_is = λ h. note_end _ _ _ _ c.loop-i.invariant.1 c.loop-i-test.false;
-    }
+  parent_is = none _ _ _ c.loop-i.invariant.0.passed c.loop-i-test.false;
+  depth_is = λ h. note_end _ _ _ _ c.loop-i.invariant.1 c.loop-i-test.false;
+}

@@ -1,15 +1,9 @@
 -- `tables::parents::parent_faults` meets its contract: a search for 11 that notes the first 26. Assumes nothing.
-use Prim.Native.Nat.{ℕ, ◌-◌, ◌+◌, ◌<◌}
-use mathlib.Core.Path.{sym, ap, subst, ◌∙◌}
-use native.Mathlib.Omega.{arith}
-use borrow.Author.Rules.{rules}
-use Rattle.base.proofs.Search.{none}
+use Prim.Native.Nat.{◌-◌}
 use Rattle.tables.specs.Tables.{no_parent, wrong_depth}
-use Rattle.tables.specs.declared.Row.{Row}
-use Rattle.tables.specs.Links.{hashes}
-use Rattle.tables.specs.Links.{place_hash, places_at}
-use Rattle.tables.proofs.Linked.{Looking, look_begin, look_hit, look_more}
-use Rattle.tables.proofs.ParentFaults.{place_below, Noted, note_begin, note_more, note_end, number_11, has_parent, number_26}
+use Rattle.tables.specs.Links.{places_at}
+use Rattle.tables.proofs.Linked.{Looking}
+use Rattle.tables.proofs.ParentFaults.{Noted}
 use Rattle.tables.proofs.parents.parent_faults.Given as goal
 
 abbrev pub invariant-loop-i : goal.invariant-loop-i

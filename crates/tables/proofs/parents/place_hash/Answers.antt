@@ -1,6 +1,5 @@
 -- `tables::parents::place_hash` meets its contract. Assumes nothing.
 use Rattle.tables.specs.Links.{place_hash}
-use borrow.Author.Rules.{rules}
 use Rattle.tables.proofs.parents.place_hash.Goals as goal
 
 pub returns : goal.returns

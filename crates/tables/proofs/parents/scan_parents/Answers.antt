@@ -1,10 +1,7 @@
 -- `tables::parents::scan_parents` meets its contract: a search. Assumes nothing.
-use Prim.Native.Nat.{◌-◌}
 use mathlib.Core.Path.{sym, ◌∙◌}
 use native.Mathlib.Omega.{arith}
-use Rattle.base.proofs.Search.{Passed, begin, miss, some_at, found_none}
-use Rattle.tables.specs.Words.{row_at}
-use Rattle.tables.specs.Links.{fits_parent}
+use Rattle.base.proofs.Search.{begin, miss, some_at, found_none}
 use Rattle.tables.proofs.parents.scan_parents.Goals as goal
 
 pub loop-j-init : goal.loop-j-init

@@ -1,5 +1,4 @@
 -- `tables::reading::digit` meets its contract. Assumes nothing.
-use borrow.Author.Rules.{rules}
 use borrow.Author.Tests.{le-leb, lt-leb}
 use mathlib.Core.Bool.{and-false}
 use Rattle.tables.specs.Files.{digit_of}

@@ -1,7 +1,6 @@
 -- `tables::reading::digit_step` meets its contract. Assumes nothing.
 use borrow.Author.Tests.{lt-ltb, le-ltb}
 use Rattle.tables.specs.Files.{digit_step}
-use borrow.Author.Rules.{rules}
 use Rattle.tables.proofs.reading.digit_step.Goals as goal
 
 pub returns-then-s-lt2 : goal.returns-then-s-lt2

@@ -1,8 +1,7 @@
 -- `tables::reading::fill` meets its contract, by the laws of proofs/Stores.antt. Assumes nothing.
 use Prim.Native.Nat.{◌-◌}
 use lib.ListN.{length}
-use Rattle.tables.proofs.Stores.{Storing, store_begin, store_length, store_value, store_place, store_room, store_word, store_more, store_end}
-use native.Mathlib.Omega.{arith}
+use Rattle.tables.proofs.Stores.{Storing}
 use Rattle.tables.proofs.reading.fill.Given as goal
 
 abbrev pub invariant-loop-i : goal.invariant-loop-i

@@ -1,6 +1,4 @@
 -- `tables::reading::is_within` meets its contract. Assumes nothing.
-use borrow.Author.Tests.{not-true, not-false}
-use borrow.Author.Rules.{rules}
 use Rattle.tables.proofs.reading.is_within.Goals as goal
 
 pub returns-then-not-signed : goal.returns-then-not-signed

@@ -1,5 +1,4 @@
 -- `tables::reading::may_end` meets its contract. Assumes nothing.
-use borrow.Author.Rules.{rules}
 use Rattle.tables.proofs.reading.may_end.Goals as goal
 
 pub may_sign-signed-requires : goal.may_sign-signed-requires

@@ -2,7 +2,6 @@
 use mathlib.Core.Path.{sym, ◌∙◌}
 use Rattle.tables.specs.Files.{other_step}
 use Rattle.tables.proofs.Steps.{end_word}
-use borrow.Author.Rules.{rules}
 use Rattle.tables.proofs.reading.other_step.Goals as goal
 
 pub may_end-requires : goal.may_end-requires

@@ -1,6 +1,5 @@
 -- `tables::reading::past_number` meets its contract. Assumes nothing.
 use borrow.Author.Tests.{eq-eqb, ne_eqb}
-use borrow.Author.Rules.{rules}
 use Rattle.tables.proofs.reading.past_number.Goals as goal
 
 pub returns-then-s-k : goal.returns-then-s-k

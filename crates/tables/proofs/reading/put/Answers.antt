@@ -1,7 +1,6 @@
 -- `tables::reading::put` meets its contract. Assumes nothing.
 use borrow.Author.Tests.{lt-ltb, le-ltb}
 use Rattle.tables.specs.Scans.{put_of}
-use borrow.Author.Rules.{rules}
 use native.Mathlib.Omega.{arith}
 use Rattle.tables.proofs.reading.put.Goals as goal
 

@@ -1,8 +1,6 @@
 -- `tables::reading::read_file` meets its contract, by the laws of proofs/ReadAnswers.antt. Assumes nothing.
 use mathlib.Core.Path.{sym, ◌∙◌}
-use borrow.Author.Tests.{not-true, not-false}
 use Rattle.tables.proofs.ReadAnswers.{starts_le, refuse_18, refuse_19, refuse_17, fillable, accept}
-use borrow.Author.Rules.{rules}
 use Rattle.tables.proofs.reading.read_file.Goals as goal
 
 pub returns-then-not-starts_with-clause-answer : goal.returns-then-not-starts_with-clause-answer

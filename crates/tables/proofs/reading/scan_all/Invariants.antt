@@ -1,10 +1,8 @@
 -- `tables::reading::scan_all` meets its contract, by the laws of proofs/Scans.antt. Assumes nothing.
 use Prim.Native.Nat.{◌-◌}
 use lib.ListN.{length}
-use native.Mathlib.Omega.{arith}
-use borrow.Author.Rules.{rules}
 use Rattle.tables.specs.Files.{format}
-use Rattle.tables.proofs.Scans.{Scanning, scan_begin, scan_more, scan_end}
+use Rattle.tables.proofs.Scans.{Scanning}
 use Rattle.tables.proofs.reading.scan_all.Given as goal
 
 abbrev pub invariant-loop-i : goal.invariant-loop-i

@@ -1,9 +1,7 @@
 -- `tables::reading::starts_with` meets its contract, by the laws of proofs/Scans.antt. Assumes nothing.
 use Prim.Native.Nat.{◌-◌}
 use lib.ListN.{length}
-use native.Mathlib.Omega.{arith}
-use borrow.Author.Rules.{rules}
-use Rattle.tables.proofs.Scans.{Comparing, compare_begin, compare_short, compare_differs, compare_more, compare_end}
+use Rattle.tables.proofs.Scans.{Comparing}
 use Rattle.tables.proofs.reading.starts_with.Given as goal
 
 abbrev pub invariant-loop-i : goal.invariant-loop-i

@@ -1,5 +1,4 @@
 -- `tables::reading::step` meets its contract. Assumes nothing.
-use borrow.Author.Rules.{rules}
 use borrow.Author.Tests.{lt-ltb, le-ltb}
 use Rattle.tables.specs.Files.{step_of}
 use Rattle.tables.proofs.reading.step.Goals as goal

@@ -1,5 +1,4 @@
 -- `tables::rows::is_deeper` meets its contract. Assumes nothing.
-use borrow.Author.Rules.{rules}
 use Rattle.tables.proofs.rows.is_deeper.Goals as goal
 
 pub returns : goal.returns

@@ -1,14 +1,8 @@
 -- `tables::rules::check_entries` meets its contract: one line of the refusal table after the other. Assumes nothing.
-use Prim.Native.Nat.{◌-◌}
 use mathlib.Core.Path.{refl}
 use native.Mathlib.Omega.{arith}
-use lib.ListN.{length}
-use borrow.Author.Rules.{rules}
-use borrow.Author.Tests.{not-true, not-false}
-use Rattle.tables.specs.Words.{entry_count}
-use Rattle.tables.specs.Rules.{entry_fault, rule_checks, check_entries}
 use Rattle.tables.proofs.Whole.{rule_few}
-use Rattle.tables.proofs.Faults.{Tested, rule_length_lem, rule_begin, test_hit, test_more, test_end}
+use Rattle.tables.proofs.Faults.{rule_length_lem, rule_begin, test_hit, test_more, test_end}
 use Rattle.tables.proofs.rules.check_entries.Goals as goal
 
 pub returns-then-not-whole : goal.returns-then-not-whole

@@ -1,7 +1,6 @@
 -- `tables::rules::entry_fault` meets its contract. Assumes nothing.
 use native.Mathlib.Omega.{arith}
 use Rattle.tables.proofs.Faults.{fault_2, fault_3, fault_4, fault_5, fault_6, fault_7}
-use borrow.Author.Rules.{rules}
 use Rattle.tables.proofs.rules.entry_fault.Goals as goal
 
 pub entry_at-e-requires : goal.entry_at-e-requires

@@ -1,9 +1,7 @@
 -- `tables::rules::first_entry_fault` meets its contract: a search. Assumes nothing.
-use Prim.Native.Nat.{◌-◌}
 use mathlib.Core.Path.{sym, ◌∙◌}
 use native.Mathlib.Omega.{arith}
-use Rattle.base.proofs.Search.{Passed, begin, hit, miss, none}
-use Rattle.tables.specs.Rules.{entry_fault}
+use Rattle.base.proofs.Search.{begin, hit, miss, none}
 use Rattle.tables.proofs.rules.first_entry_fault.Goals as goal
 
 pub loop-i-init : goal.loop-i-init

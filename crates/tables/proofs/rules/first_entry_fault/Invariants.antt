@@ -1,8 +1,6 @@
 -- `tables::rules::first_entry_fault` meets its contract: a search. Assumes nothing.
 use Prim.Native.Nat.{◌-◌}
-use mathlib.Core.Path.{sym, ◌∙◌}
-use native.Mathlib.Omega.{arith}
-use Rattle.base.proofs.Search.{Passed, begin, hit, miss, none}
+use Rattle.base.proofs.Search.{Passed}
 use Rattle.tables.specs.Rules.{entry_fault}
 use Rattle.tables.proofs.rules.first_entry_fault.Given as goal
 

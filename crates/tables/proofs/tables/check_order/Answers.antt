@@ -1,8 +1,6 @@
 -- `tables::check_order` meets its contract: one check after the other but 12. Assumes nothing.
 use mathlib.Core.Path.{◌∙◌}
 use native.Mathlib.Omega.{arith}
-use borrow.Author.Rules.{rules}
-use borrow.Author.Tests.{not-true, not-false}
 use Rattle.tables.proofs.Whole.{table_few}
 use Rattle.tables.proofs.Faults.{table_length_lem, stop_9, stop_10, stop_11, stop_26, order_passed}
 use Rattle.tables.proofs.tables.check_order.Goals as goal

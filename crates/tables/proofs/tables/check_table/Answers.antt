@@ -2,7 +2,6 @@
 use mathlib.Core.Path.{◌≡◌, refl, sym, ap, ◌∙◌}
 use mathlib.Core.Bool.{true}
 use native.Mathlib.Omega.{arith}
-use borrow.Author.Rules.{rules}
 use Rattle.tables.specs.Answers.{is_done}
 use Rattle.tables.specs.Tables.{ordered_table}
 use Rattle.tables.proofs.Ordered.{whole_rows, few_rows}

@@ -1,9 +1,7 @@
 -- `tables::tables::first_plain` meets its contract: a search. Assumes nothing.
-use Prim.Native.Nat.{◌-◌}
 use mathlib.Core.Path.{sym, ◌∙◌}
 use native.Mathlib.Omega.{arith}
-use Rattle.base.proofs.Search.{Passed, begin, hit, miss, none}
-use Rattle.tables.specs.Links.{plain_fault}
+use Rattle.base.proofs.Search.{begin, hit, miss, none}
 use Rattle.tables.proofs.tables.first_plain.Goals as goal
 
 pub loop-i-init : goal.loop-i-init

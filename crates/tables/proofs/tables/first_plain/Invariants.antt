@@ -1,8 +1,6 @@
 -- `tables::tables::first_plain` meets its contract: a search. Assumes nothing.
 use Prim.Native.Nat.{◌-◌}
-use mathlib.Core.Path.{sym, ◌∙◌}
-use native.Mathlib.Omega.{arith}
-use Rattle.base.proofs.Search.{Passed, begin, hit, miss, none}
+use Rattle.base.proofs.Search.{Passed}
 use Rattle.tables.specs.Links.{plain_fault}
 use Rattle.tables.proofs.tables.first_plain.Given as goal
 

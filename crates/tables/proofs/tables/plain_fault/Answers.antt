@@ -1,6 +1,5 @@
 -- `tables::tables::plain_fault` meets its contract. Assumes nothing.
 use Rattle.tables.proofs.Faults.{plain_9, plain_first, plain_above}
-use borrow.Author.Rules.{rules}
 use Rattle.tables.proofs.tables.plain_fault.Goals as goal
 
 pub returns-then-number-eq9 : goal.returns-then-number-eq9

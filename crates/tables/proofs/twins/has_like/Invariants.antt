@@ -1,13 +1,9 @@
 -- `tables::twins::has_like` meets its contract. Assumes nothing.
 use Prim.Native.Nat.{◌-◌, ◌≤◌}
-use mathlib.Core.Path.{◌≡◌, ap, ap₂, ◌∙◌}
-use mathlib.Core.Bool.{◌||◌}
-use native.Mathlib.Omega.{arith}
-use borrow.Author.Rules.{rules}
+use mathlib.Core.Path.{◌≡◌}
 use Rattle.base.specs.Search.{some}
 use Rattle.tables.specs.Words.{row_at}
 use Rattle.tables.specs.Links.{is_like}
-use Rattle.tables.proofs.Scanned.{some_zero, some_more, some_all}
 use Rattle.tables.proofs.twins.has_like.Given as goal
 
 abbrev pub invariant-loop-i : goal.invariant-loop-i

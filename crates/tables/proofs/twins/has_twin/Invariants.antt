@@ -1,14 +1,10 @@
 -- `tables::twins::has_twin` meets its contract. Assumes nothing.
 use mathlib.Core.List.{◌++◌}
-use mathlib.Core.Path.{sym, ap, ◌∙◌}
-use native.Mathlib.Omega.{arith}
-use borrow.Author.Rules.{rules}
 use Rattle.tables.specs.Words.{row_at}
 use Rattle.tables.specs.Tables.{is_twin}
 use Rattle.tables.specs.Links.{twin_hash}
 use Rattle.tables.specs.Links.{twins_at}
-use Rattle.tables.proofs.Linked.{Seeks, seek_begin, seek_next, seek_falls, seek_hit, seek_rest, seek_end}
-use Rattle.tables.proofs.Siblings.{same_hash}
+use Rattle.tables.proofs.Linked.{Seeks}
 use Rattle.tables.proofs.twins.has_twin.Given as goal
 
 abbrev pub invariant-loop-at : goal.invariant-loop-at

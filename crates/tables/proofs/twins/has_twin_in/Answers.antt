@@ -1,6 +1,5 @@
 -- `tables::twins::has_twin_in` meets its contract. Assumes nothing.
 use mathlib.Core.Path.{sym, ◌∙◌}
-use borrow.Author.Rules.{rules}
 use Rattle.tables.proofs.Scanned.{none_like}
 use Rattle.tables.proofs.twins.has_twin_in.Goals as goal
 

@@ -1,5 +1,4 @@
 -- `tables::twins::is_twin_at` meets its contract. Assumes nothing.
-use borrow.Author.Rules.{rules}
 use Rattle.tables.specs.Words.{row_at}
 use mathlib.Core.Path.{ap, ◌∙◌}
 use Rattle.tables.specs.Tables.{is_twin}

@@ -1,8 +1,6 @@
 -- `tables::twins::scan_twins` meets its contract: a search. Assumes nothing.
 use Prim.Native.Nat.{◌-◌}
-use mathlib.Core.Path.{sym, ◌∙◌}
-use native.Mathlib.Omega.{arith}
-use Rattle.base.proofs.Search.{Passed, begin, miss, some_at, found_none}
+use Rattle.base.proofs.Search.{Passed}
 use Rattle.tables.specs.Words.{row_at}
 use Rattle.tables.specs.Tables.{is_twin}
 use Rattle.tables.proofs.twins.scan_twins.Given as goal

@@ -1,6 +1,5 @@
 -- `tables::twins::twin_hash` meets its contract. Assumes nothing.
 use mathlib.Core.Path.{◌∙◌}
-use borrow.Author.Rules.{rules}
 use Rattle.tables.proofs.Siblings.{root_device, child_device, twin_is}
 use Rattle.tables.proofs.twins.twin_hash.Goals as goal
 use Rattle.tables.proofs.twins.twin_hash.Goals.{then-r-eq0, else-r-eq0}

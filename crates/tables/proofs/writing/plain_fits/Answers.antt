@@ -1,10 +1,9 @@
 -- `tables::writing::plain_fits` meets its contract, by the laws of proofs/Measures.antt. Assumes nothing.
-use Prim.Native.Nat.{ℕ, ◌-◌}
+use Prim.Native.Nat.{ℕ}
 use mathlib.Core.Path.{ap}
 use lib.Dec.{leb}
 use Rattle.base.proofs.Lists.{length_select}
-use Rattle.tables.proofs.Measures.{Measuring, measure_begin, measure_over, measure_plenty, measure_more, measure_end}
-use borrow.Author.Rules.{rules}
+use Rattle.tables.proofs.Measures.{measure_begin, measure_over, measure_plenty, measure_more, measure_end}
 use native.Mathlib.Omega.{arith}
 use Rattle.tables.proofs.writing.plain_fits.Goals as goal
 

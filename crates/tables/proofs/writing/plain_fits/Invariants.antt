@@ -1,11 +1,6 @@
 -- `tables::writing::plain_fits` meets its contract, by the laws of proofs/Measures.antt. Assumes nothing.
-use Prim.Native.Nat.{ℕ, ◌-◌}
-use mathlib.Core.Path.{ap}
-use lib.Dec.{leb}
-use Rattle.base.proofs.Lists.{length_select}
-use Rattle.tables.proofs.Measures.{Measuring, measure_begin, measure_over, measure_plenty, measure_more, measure_end}
-use borrow.Author.Rules.{rules}
-use native.Mathlib.Omega.{arith}
+use Prim.Native.Nat.{◌-◌}
+use Rattle.tables.proofs.Measures.{Measuring}
 use Rattle.tables.proofs.writing.plain_fits.Given as goal
 
 abbrev pub invariant-loop-n : goal.invariant-loop-n

@@ -1,9 +1,6 @@
 -- `tables::writing::put_bytes` meets its contract. Assumes nothing.
-use Prim.Native.Nat.{◌-◌}
-use lib.ListN.{length}
 use native.Mathlib.Omega.{arith}
-use borrow.Author.Rules.{rules}
-use Rattle.base.proofs.Copies.{Copying, copy_begin, copy_more, copy_end}
+use Rattle.base.proofs.Copies.{copy_begin, copy_more, copy_end}
 use Rattle.tables.proofs.writing.put_bytes.Goals as goal
 
 pub loop-i-init : goal.loop-i-init

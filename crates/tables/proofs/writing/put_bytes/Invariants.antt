@@ -1,9 +1,7 @@
 -- `tables::writing::put_bytes` meets its contract. Assumes nothing.
 use Prim.Native.Nat.{◌-◌}
 use lib.ListN.{length}
-use native.Mathlib.Omega.{arith}
-use borrow.Author.Rules.{rules}
-use Rattle.base.proofs.Copies.{Copying, copy_begin, copy_more, copy_end}
+use Rattle.base.proofs.Copies.{Copying}
 use Rattle.tables.proofs.writing.put_bytes.Given as goal
 
 abbrev pub invariant-loop-i : goal.invariant-loop-i

@@ -2,8 +2,7 @@
 use native.Mathlib.Omega.{arith}
 use lib.ListN.{length-set}
 use Rattle.tables.proofs.Digits.{text_pos}
-use Rattle.tables.proofs.Numbers.{Placing, place_begin, place_length, place_room, place_nine, place_more, place_last, place_end}
-use borrow.Author.Rules.{rules}
+use Rattle.tables.proofs.Numbers.{place_begin, place_length, place_room, place_nine, place_more, place_last, place_end}
 use Rattle.tables.proofs.writing.put_number.Goals as goal
 
 pub overflow_sub-i : goal.overflow_sub-i

@@ -1,9 +1,5 @@
 -- `tables::writing::put_number` meets its contract, by the laws of proofs/Numbers.antt. Assumes nothing.
-use native.Mathlib.Omega.{arith}
-use lib.ListN.{length-set}
-use Rattle.tables.proofs.Digits.{text_pos}
-use Rattle.tables.proofs.Numbers.{Placing, place_begin, place_length, place_room, place_nine, place_more, place_last, place_end}
-use borrow.Author.Rules.{rules}
+use Rattle.tables.proofs.Numbers.{Placing}
 use Rattle.tables.proofs.writing.put_number.Given as goal
 
 abbrev pub invariant-loop-i : goal.invariant-loop-i

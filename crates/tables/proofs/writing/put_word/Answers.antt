@@ -3,7 +3,6 @@ use mathlib.Core.Path.{ap, ◌∙◌}
 use lib.ListN.{length, length-set}
 use Rattle.tables.proofs.Writes.{sign_below, sign_text, sign_length, sign_put, plain_text}
 use Prim.Native.Nat.{◌+◌, ◌-◌}
-use borrow.Author.Rules.{rules}
 use native.Mathlib.Omega.{arith}
 use Rattle.tables.proofs.writing.put_word.Goals as goal
 

@@ -1,9 +1,5 @@
 -- `tables::writing::put_words` meets its contract, by the laws of proofs/Writes.antt. Assumes nothing.
-use Prim.Native.Nat.{◌-◌}
-use lib.ListN.{length}
-use Rattle.tables.specs.Files.{format}
-use Rattle.tables.proofs.Writes.{Putting, put_begin, put_room, put_more, put_end}
-use borrow.Author.Rules.{rules}
+use Rattle.tables.proofs.Writes.{put_begin, put_room, put_more, put_end}
 use native.Mathlib.Omega.{arith}
 use Rattle.tables.proofs.writing.put_words.Goals as goal
 

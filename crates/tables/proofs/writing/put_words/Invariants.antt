@@ -2,9 +2,7 @@
 use Prim.Native.Nat.{◌-◌}
 use lib.ListN.{length}
 use Rattle.tables.specs.Files.{format}
-use Rattle.tables.proofs.Writes.{Putting, put_begin, put_room, put_more, put_end}
-use borrow.Author.Rules.{rules}
-use native.Mathlib.Omega.{arith}
+use Rattle.tables.proofs.Writes.{Putting}
 use Rattle.tables.proofs.writing.put_words.Given as goal
 
 abbrev pub invariant-loop-i : goal.invariant-loop-i

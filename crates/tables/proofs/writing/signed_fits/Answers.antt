@@ -1,10 +1,7 @@
 -- `tables::writing::signed_fits` meets its contract, by the laws of proofs/Measures.antt. Assumes nothing.
-use Prim.Native.Nat.{ℕ, ◌+◌, ◌-◌}
+use Prim.Native.Nat.{ℕ, ◌+◌}
 use mathlib.Core.Path.{ap}
-use lib.ListN.{length}
-use Rattle.tables.specs.Files.{format}
-use Rattle.tables.proofs.Measures.{Fitting, fit_begin, fit_short, fit_more, fit_end}
-use borrow.Author.Rules.{rules}
+use Rattle.tables.proofs.Measures.{fit_begin, fit_short, fit_more, fit_end}
 use native.Mathlib.Omega.{arith}
 use Rattle.tables.proofs.writing.signed_fits.Goals as goal
 

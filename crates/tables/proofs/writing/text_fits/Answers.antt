@@ -1,6 +1,5 @@
 -- `tables::writing::text_fits` meets its contract, by the laws of proofs/Measures.antt. Assumes nothing.
 use Rattle.tables.proofs.Measures.{fit_none, fit_plain, fit_over}
-use borrow.Author.Rules.{rules}
 use native.Mathlib.Omega.{arith}
 use Rattle.tables.proofs.writing.text_fits.Goals as goal
 

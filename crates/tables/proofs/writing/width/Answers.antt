@@ -1,8 +1,6 @@
 -- `tables::writing::width` meets its contract, by the laws of proofs/Numbers.antt. Assumes nothing.
-use Prim.Native.Nat.{◌-◌}
 use native.Mathlib.Omega.{arith}
-use Rattle.tables.proofs.Numbers.{Widths, width_begin, width_more, width_found, width_end}
-use borrow.Author.Rules.{rules}
+use Rattle.tables.proofs.Numbers.{width_begin, width_more, width_found, width_end}
 use Rattle.tables.proofs.writing.width.Goals as goal
 
 pub loop-n-init : goal.loop-n-init
@@ -10,13 +8,13 @@ loop-n-init c = width_begin _ (omega arith)
 
 pub returns-then-w-power : goal.returns-then-w-power
 returns-then-w-power c = (
-      omega (
-        arith,
-        width_found _ (omega arith) _ _ c.loop-n.invariant c.loop-n-test.true c.power.ensures
-            (omega (arith, c.if-w-power.true)),
-      ),
-      omega (arith, c.loop-n.invariant.high),
-    )
+  omega (
+    arith,
+    width_found _ (omega arith) _ _ c.loop-n.invariant c.loop-n-test.true c.power.ensures
+        (omega (arith, c.if-w-power.true)),
+  ),
+  omega (arith, c.loop-n.invariant.high),
+)
 
 pub overflow_add-n : goal.overflow_add-n
 overflow_add-n c = omega arith

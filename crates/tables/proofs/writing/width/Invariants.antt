@@ -1,8 +1,6 @@
 -- `tables::writing::width` meets its contract, by the laws of proofs/Numbers.antt. Assumes nothing.
 use Prim.Native.Nat.{◌-◌}
-use native.Mathlib.Omega.{arith}
-use Rattle.tables.proofs.Numbers.{Widths, width_begin, width_more, width_found, width_end}
-use borrow.Author.Rules.{rules}
+use Rattle.tables.proofs.Numbers.{Widths}
 use Rattle.tables.proofs.writing.width.Given as goal
 
 abbrev pub invariant-loop-n : goal.invariant-loop-n

@@ -1,6 +1,5 @@
 -- `tables::writing::write_file` meets its contract, by the laws of proofs/WriteAnswers.antt. Assumes nothing.
 use Rattle.tables.proofs.WriteAnswers.{too_long, not_too_long, refuse, short, accept}
-use borrow.Author.Rules.{rules}
 use native.Mathlib.Omega.{arith}
 use mathlib.Core.Path.{ap}
 use mathlib.Core.Bool.{not}

@@ -1,5 +1,4 @@
 -- `engine::Bindings::bind` meets its contract. Assumes nothing.
-use borrow.Author.Rules.{rules}
 use borrow.Author.Tests.{lt-ltb, le-ltb, lt-leb, le-leb}
 use Rattle.engine.proofs.bindings.Bindings.bind.Goals as goal
 
