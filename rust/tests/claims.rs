@@ -68,8 +68,7 @@ fn every_file_is_there() {
             if !base.is_dir() || name.is_empty() {
                 continue;
             }
-            let places =
-                [("must-fail", "edit"), ("further-edits", "edit"), ("specs", "antt"), ("proofs", "antt")];
+            let places = [("must-fail", "edit"), ("specs", "antt"), ("proofs", "antt")];
             let there = places.iter().any(|(f, e)| base.join(f).join(format!("{name}.{e}")).is_file());
             assert!(there, "CLAIMS names {word}, which is no edit and no file of definitions or theorems");
             checked += 1;

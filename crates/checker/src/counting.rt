@@ -82,6 +82,7 @@ fn parts_count(rule: &[u32], pool: &[u32], mode: u32) -> usize
 }
 
 // How many bytes are 1.
+#[tactic(auto, using(base::proofs::Counts::count_hit, base::proofs::Counts::count_miss))]
 fn ones(bytes: &[u8]) -> usize
     ensures { result ≡ length (select (λ b. eqb b 1) bytes.now) }
 {

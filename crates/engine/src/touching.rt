@@ -69,6 +69,7 @@ fn depth_of(pool: &[u32], b: Bindings, e: Entry) -> usize
 }
 
 // The place of the row on the way that it reaches; 0 for none.
+#[tactic(auto, using(crate::proofs::Ways::lands_there, crate::proofs::Ways::lands_other))]
 fn place_on_way(pool: &[u32], way: Way, b: Bindings, e: Entry) -> usize
     requires placed { Placed pool.now b }
     requires b_le_nesting_limit { e.b ≤ nesting_limit }

@@ -75,7 +75,7 @@ set_no_add e f = omega (arith, e, f)
 
 module _ (t s : List ℕ) {place : ℕ} (w : StepPlaced t s place) where
   pub step_words_lem : step_words ≤ length s
-  step_words_lem = leb-true step_words (length s) (and_left (leb step_words (length s)) _ w.is_step_lem)
+  step_words_lem = leb-true step_words (length s) (and_left (leb step_words (length s)) _ w.is_a_step)
 
   pub place_inside : place ≤ row_count t
   place_inside = subst (λ (p : ℕ). p ≤ row_count t) (sym w.place_is) (first_le (λ i. not (is_above (step_row s) (row_at t i))) (row_count t))
@@ -167,7 +167,7 @@ module _ (t s : List ℕ) where
       pub step_placed : StepPlaced t s place
       unfolding step_place
       step_placed = record {
-        is_step_lem = unless_ok (is_step s) 23 passed_23 ok;
+        is_a_step = unless_ok (is_step s) 23 passed_23 ok;
         place_is = at_place;
         there = λ e. subst (λ (p : ℕ). p < row_count t) (sym at_place)
             (ltb-true (place_for t (step_row s)) (row_count t) (and_left (ltb (place_for t (step_row s)) (row_count t)) _ (passed_row ok e)));

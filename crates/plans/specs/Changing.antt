@@ -9,6 +9,6 @@ spliced t before middle behind = take before t ++ (middle ++ drop behind t)
 
 -- the step passes 23, the place is its row's, and a row to set or remove is there
 pub record StepPlaced (t s : List ℕ) (place : ℕ) : Type 0 where
-  pub is_step_lem : is_step s ≡ true
+  pub is_a_step : is_step s ≡ true
   pub place_is : place ≡ place_for t (step_row s)
   pub there : adding s ≡ false → place < row_count t

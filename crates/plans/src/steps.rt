@@ -86,6 +86,7 @@ fn has_under(table: &[u32], r: Row) -> bool
 }
 
 // Whether a step has all its words and a known kind.
+#[tactic(auto, using(crate::proofs::Finding::lacking, crate::proofs::Finding::having))]
 fn is_step(step: &[u32]) -> bool
     ensures { result ≡ is_step step.now }
 {

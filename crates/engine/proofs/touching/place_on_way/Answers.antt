@@ -1,7 +1,7 @@
 -- `engine::touching::place_on_way` meets its contract. Assumes nothing.
-use mathlib.Core.Path.{refl, sym, ◌∙◌}
+use mathlib.Core.Path.{refl}
 use native.Mathlib.Omega.{arith}
-use Rattle.engine.proofs.Ways.{lands_past, lands_free, lands_inside, lands_other, lands_there}
+use Rattle.engine.proofs.Ways.{lands_past, lands_free, lands_inside}
 use Rattle.engine.proofs.touching.place_on_way.Goals as goal
 
 pub depth_of-deep-requires-clause-placed : goal.depth_of-deep-requires-clause-placed
@@ -27,10 +27,3 @@ overflow_sub-place c = omega (arith, c.if-place-eq0.false)
 
 pub row_at-requires : goal.row_at-requires
 row_at-requires c = lands_inside c.args.pool.now _ c.args.b.row c.args.e c.requires.way_up c.depth_of-deep.ensures refl c.if-place-eq0.false
-
-pub returns-then-is_named : goal.returns-then-is_named
-returns-then-is_named c = lands_there c.args.pool.now _ c.args.b.row c.args.e c.requires.way_up c.depth_of-deep.ensures refl
-
-pub returns : goal.returns
-returns c = lands_other c.args.pool.now _ c.args.b.row c.args.e c.requires.way_up c.depth_of-deep.ensures refl c.row_at.ensures
-    (sym c.is_named.ensures ∙ c.if-is_named.false)
