@@ -117,6 +117,9 @@ module _ (t ps : List ℕ) (j : ℕ) (h : j < entry_words * entry_count t) where
     pub kept_word : (column ≡ 2 → ⊥) → (column ≡ 3 → ⊥) → get_or t j 0 ≡ get_or (filled t ps) j 0
     kept_word m n = sym (blank_word column refl ∙ first_two column (omega arith) m n ∙ template_word)
 
+-- what each way through the choice of a word rests on
+pub ruleset words_filled = (other_word, constant_word, number_word, parameter_word, kept_word)
+
 -- ---- the loop that writes them
 module _ (t ps : List ℕ) (whole : length t ≡ entry_words * entry_count t) (out₀ : List ℕ) where
   -- j words are written

@@ -100,13 +100,7 @@ fn parameters_fit(template: &[u32], count: usize) -> bool
 }
 
 // Word j of the filled rule: the template's, but for b and c of a blank.
-#[tactic(auto, using(
-    crate::proofs::Filling::other_word,
-    crate::proofs::Filling::constant_word,
-    crate::proofs::Filling::number_word,
-    crate::proofs::Filling::parameter_word,
-    crate::proofs::Filling::kept_word
-))]
+#[tactic(auto, using(crate::proofs::Filling::words_filled))]
 fn filled_word(template: &[u32], parameters: &[u32], j: usize) -> u32
     requires each_has_parameter { EachHasParameter template.now (length parameters.now) }
     requires j_bound { j < entry_words * entry_count template.now }
