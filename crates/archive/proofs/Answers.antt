@@ -3,36 +3,37 @@ use Rattle.std.proofs.Common.{◌≡◌, ℕ, ◌+◌, ◌%◌, ◌<◌, ◌≤�
 use lib.Seq.{sets, sets-eq}
 use borrow.Author.Tests.{lt-leb}
 use Rattle.base.proofs.Bools.{either}
-use Rattle.tables.specs.Answers.{is_done, unless, fitting, output}
+use Rattle.tables.specs.Answers.{Answer, Done, Refused, is_done, unless, fitting, output}
 use Rattle.tables.specs.Words.{whole, row_words}
-use Rattle.tables.specs.declared.Answer.{Answer}
-use Rattle.tables.specs.declared.Answer.TheVariants.{Done, Refused}
 use Rattle.tables.proofs.Answers.{unless_ok, unless_next}
+use Rattle.std.specs.Prelude.{Err}
+use Rattle.tables.specs.declared.refusals.Refusal.{Refusal}
 use Rattle.tables.proofs.Calls as calls
 use Rattle.archive.specs.Archive.{reorder_answer, reorder_out, AcceptedExactly, reordered}
+use Rattle.tables.specs.declared.refusals.Fault.TheVariants.{ShortOutput, Rows}
 
--- ---- 28 and 17, told by the lengths
+-- ---- the refusals, told by the lengths
 abbrev pub by_lengths : List ℕ → ℕ → Answer
-by_lengths ws room = unless (whole row_words ws) 28 (fitting ws room)
+by_lengths ws room = unless (whole row_words ws) Rows (fitting ws room)
 
 module _ (ws : List ℕ) (room : ℕ) where
-  pub stop_28 : ¬ (length ws % row_words ≡ 0) → Refused 28 0 ≡ by_lengths ws room
-  stop_28 h = sym (rw (ne_eqb (length ws % row_words) 0 h))
+  pub stop_rows : ¬ (length ws % row_words ≡ 0) → Refused Rows 0 ≡ by_lengths ws room
+  stop_rows h = sym (rw (ne_eqb (length ws % row_words) 0 h))
 
   module _ (e : length ws % row_words ≡ 0) where
-    pub stop_17 : room < length ws → Refused 17 0 ≡ by_lengths ws room
-    stop_17 h = sym (rw (eq-eqb (length ws % row_words) 0 e, lt-leb (length ws) room h))
+    pub stop_room : room < length ws → Refused ShortOutput 0 ≡ by_lengths ws room
+    stop_room h = sym (rw (eq-eqb (length ws % row_words) 0 e, lt-leb (length ws) room h))
 
     pub passed : length ws ≤ room → Done (length ws) ≡ by_lengths ws room
     passed h = sym (rw (eq-eqb (length ws % row_words) 0 e, le-leb (length ws) room h))
 
 module _ (ws : List ℕ) (room : ℕ) (ok : is_done (by_lengths ws room) ≡ true) where
   pub whole_rows : whole row_words ws ≡ true
-  whole_rows = unless_ok (whole row_words ws) 28 (fitting ws room) ok
+  whole_rows = unless_ok (whole row_words ws) Rows (fitting ws room) ok
 
   pub fits : length ws ≤ room
   fits = leb-true (length ws) room
-      (unless_ok (leb (length ws) room) 17 (Done (length ws)) (unless_next (whole row_words ws) 28 (fitting ws room) ok))
+      (unless_ok (leb (length ws) room) ShortOutput (Done (length ws)) (unless_next (whole row_words ws) Rows (fitting ws room) ok))
 
 -- ---- a call
 -- the order has as many words as it is given
@@ -62,8 +63,8 @@ module _ (reorder : List ℕ → List ℕ) (as_long : AsLong reorder) where
 
   module _ (ws out : List ℕ) where
     -- a refused call leaves the output as it came
-    pub refused : {k p : ℕ} → by_lengths ws (length out) ≡ Refused k p
-        → (Refused k p ≡ reorder_answer reorder ws (length out)) × (out ≡ reorder_out reorder ws out)
+    pub refused : {r : Refusal} → by_lengths ws (length out) ≡ Err r
+        → (Err r ≡ reorder_answer reorder ws (length out)) × (out ≡ reorder_out reorder ws out)
     unfolding reorder_out
     refused e =
         let a = by_lengths_lem ws (length out) ∙ e in
@@ -71,12 +72,12 @@ module _ (reorder : List ℕ → List ℕ) (as_long : AsLong reorder) where
 
     -- an accepted one has laid the words
     pub done : {n : ℕ} → by_lengths ws (length out) ≡ Done n → {o : List ℕ} → o ≡ sets out 0 (reorder ws)
-        → (Done (length ws) ≡ reorder_answer reorder ws (length out)) × (o ≡ reorder_out reorder ws out)
+        → (Done n ≡ reorder_answer reorder ws (length out)) × (o ≡ reorder_out reorder ws out)
     unfolding reorder_out
     done e o_is =
         let ok = whole_rows ws (length out) (ap is_done e) in
         let room : length ws ≤ length out = fits ws (length out) (ap is_done e) in
-        let a = accepted ws ok (length out) room in
+        let a = by_lengths_lem ws (length out) ∙ e in
         let n = length (reorder ws) in
         let z : 0 + n ≡ n = omega arith in (
           sym a,

@@ -2,7 +2,6 @@
 use Rattle.std.proofs.Common.{◌≡◌, ℕ, suc, ◌+◌, ◌-◌, ◌*◌, ◌%◌, ◌^◌, ◌<◌, ◌≤◌, List, take, sym, ap, ◌∙◌, ap₂, arith, get_or-take}
 use Rattle.tables.specs.Words.{word_limit, word}
 use Rattle.archive.specs.Archive.{wrapping_sub, wrapping_add, lines_below, archived_word, restored_word}
-use Rattle.archive.proofs.Wrapping.{difference_is}
 use Rattle.archive.proofs.ByPlace.{place_below, lines_at}
 
 -- ---- word i of column c
@@ -11,13 +10,13 @@ module _ (k : ℕ) (table : List ℕ) (c i : ℕ) {w : ℕ} (w_is : w ≡ word k
   unfolding archived_word
   first_archived e = w_is ∙ rw e
 
-  -- a is the word above, r the word to which it added wraps back to w
-  pub further_archived : ¬ (i ≡ 0) → {a : ℕ} → a ≡ word k table (i - 1) c → w ≤ word_limit → a ≤ word_limit
-      → {r : ℕ} → r ≤ word_limit → (r + a) % 2 ^ 32 ≡ w → r ≡ archived_word k table c i
+  -- a is the word above
+  pub further_archived : ¬ (i ≡ 0) → {a : ℕ} → a ≡ word k table (i - 1) c → a ≤ word_limit → (w + (2 ^ 32 - a)) % 2 ^ 32 ≡ archived_word k table c i
   unfolding archived_word
-  further_archived further a_is w-small a_small r_small e =
+  further_archived further {a} a_is a_small =
       let s : suc (i - 1) ≡ i = omega arith in
-      difference_is w-small a_small r_small e
+      let behind : w + (2 ^ 32 - a) ≡ w + 2 ^ 32 - a = omega arith in
+      ap (λ (m : ℕ). m % 2 ^ 32) behind
       ∙ ap₂ wrapping_sub (w_is ∙ ap (λ (j : ℕ). word k table j c) (sym s)) a_is
       ∙ ap (archived_word k table c) s
 

@@ -1,7 +1,7 @@
 -- Through the calls: what one has written, the other gives back. Assumes nothing.
 use Rattle.std.proofs.Common.{◌≡◌, ℕ, true, List, length, ap, ◌∙◌, arith}
 use Rattle.tables.specs.Words.{AllWords, whole, row_words}
-use Rattle.tables.specs.declared.Answer.TheVariants.{Done}
+use Rattle.tables.specs.Answers.{Done}
 use Rattle.archive.specs.Archive.{to_columns, from_columns, reordered, GivesBack, ArchiveCalls}
 use Rattle.archive.proofs.Inverses.{to_length, from_length, table_back, columns_back}
 use Rattle.archive.proofs.Answers.{AsLong, accepted, left, exactly}

@@ -7,7 +7,6 @@ pub sum_word : (a b : ℕ) → wrapping_add a b ≤ word_limit
 sum_word a b = omega arith
 
 module _ {a b : ℕ} (a_word : a ≤ word_limit) (b_word : b ≤ word_limit) where
-  -- the word to which b added wraps back to a
   pub difference_is : {r : ℕ} → r ≤ word_limit → (r + b) % 2 ^ 32 ≡ a → r ≡ wrapping_sub a b
   difference_is r-word e = omega arith
 

@@ -1,10 +1,9 @@
 -- 02, wish 13: the archive's order of a table's words, column after column, and its inverse. Assumes nothing.
 use Rattle.std.specs.Prelude.{◌≡◌, ℕ, zero, suc, ◌+◌, ◌-◌, ◌%◌, ◌^◌, ◌≤◌, true, List, [], ◌∷◌, ◌++◌, length}
-use Rattle.tables.specs.Answers.{is_done, unless, fitting, output}
+use Rattle.tables.specs.Answers.{Answer, Done, is_done, unless, fitting, output}
 use Rattle.tables.specs.Words.{AllWords, word, whole, line_count, row_words}
 use Rattle.tables.specs.Trips.{up_to}
-use Rattle.tables.specs.declared.Answer.{Answer}
-use Rattle.tables.specs.declared.Answer.TheVariants.{Done}
+use Rattle.tables.specs.declared.refusals.Fault.TheVariants.{Rows}
 
 -- ---- differences and sums of words, wrapping at 32 bits
 abbrev pub wrapping_sub : ℕ → ℕ → ℕ
@@ -44,10 +43,10 @@ restored_word n columns (suc i) c = wrapping_add (word n columns c (suc i)) (res
 abbrev pub from_columns : ℕ → List ℕ → List ℕ
 from_columns k columns = lines_below (restored_word (line_count k columns) columns) k (line_count k columns)
 
--- ---- the two calls: 28 if the words aren't a whole number of rows, then 17; no other test
+-- ---- the two calls: refused if the words aren't a whole number of rows, then if the output is too short; no other test
 -- the number of words, or the refusal
 unfoldable pub reorder_answer : (List ℕ → List ℕ) → List ℕ → ℕ → Answer
-reorder_answer reorder ws room = unless (whole row_words ws) 28 (fitting (reorder ws) room)
+reorder_answer reorder ws room = unless (whole row_words ws) Rows (fitting (reorder ws) room)
 
 -- the words in their other order and what stood past them, or as it was
 unfoldable pub reorder_out : (List ℕ → List ℕ) → List ℕ → List ℕ → List ℕ

@@ -5,30 +5,24 @@
 ghost use Rattle.std.specs.Prelude.{◌≡◌, ◌+◌, ◌*◌, ◌<◌, ◌≤◌, length, take};
 ghost use Rattle.std.proofs.lemmas.List.Edits.{sets};
 ghost use Rattle.tables.specs.Answers.{unless, fitting};
+ghost use Rattle.tables.specs.declared.refusals.Fault.TheVariants.{Rows};
 ghost use Rattle.tables.specs.Words.{word, whole, row_words, row_count};
 ghost use Rattle.archive.specs.Archive.{words_below, archived_word, to_columns, to_columns_answer, to_columns_out};
 ghost use Rattle.archive.specs.Archive.{restored_word, from_columns, from_columns_answer, from_columns_out};
 
-use std::num::{wrapping_add_u32, wrapping_sub_u32};
-use tables::{Answer, ROW_WORDS};
+use tables::{Answer, Fault, ROW_WORDS, Refusal};
 
-// 28, then 17: the number of words, as many in both orders, or the refusal.
+// The number of words, as many in both orders, or the refusal.
 fn reorder_answer(words: &[u32], room: usize) -> Answer
-    ensures { result ≡ unless (whole row_words words.now) 28 (fitting words.now room) }
+    ensures { result ≡ unless (whole row_words words.now) Rows (fitting words.now room) }
 {
     if words.len() % ROW_WORDS != 0 {
-        return Answer::Refused {
-            number: 28,
-            place: 0,
-        };
+        return Err(Refusal::of(Fault::Rows));
     }
     if room < words.len() {
-        return Answer::Refused {
-            number: 17,
-            place: 0,
-        };
+        return Err(Refusal::of(Fault::ShortOutput));
     }
-    Answer::Done(words.len())
+    Ok(words.len())
 }
 
 // Where word i of column c stands in the archive's order; `words`, in either order, tell how many rows there are.
@@ -57,20 +51,18 @@ fn archived_word(table: &[u32], c: usize, i: usize) -> u32
     if i == 0 {
         return word;
     }
-    wrapping_sub_u32(word, word_at(table, i - 1, c))
+    word.wrapping_sub(word_at(table, i - 1, c))
 }
 
+// Kept: (d) a column reads the table that is given, a row the rows written before it: one loop for both takes a closure over its output, and a longer contract than both.
 // Writes column c.
 fn put_column(table: &[u32], c: usize, columns: &mut [u32])
     requires { (c < row_words) × (length table.now ≤ length columns.old) }
     ensures { columns.new ≡ sets columns.old (row_count table.now * c)
         (words_below (archived_word row_words table.now c) (row_count table.now)) }
 {
-    let n = table.len() / ROW_WORDS;
-    let mut i = 0;
-    while i < n {
+    for i in 0..table.len() / ROW_WORDS {
         columns[column_place(table, c, i)] = archived_word(table, c, i);
-        i += 1;
     }
 }
 
@@ -79,10 +71,8 @@ fn put_columns(table: &[u32], columns: &mut [u32])
     requires { length table.now ≤ length columns.old }
     ensures { columns.new ≡ sets columns.old 0 (to_columns row_words table.now) }
 {
-    let mut c = 0;
-    while c < ROW_WORDS {
+    for c in 0..ROW_WORDS {
         put_column(table, c, columns);
-        c += 1;
     }
 }
 
@@ -91,12 +81,9 @@ pub fn to_columns(table: &[u32], columns: &mut [u32]) -> Answer
     ensures answer { result ≡ to_columns_answer table.now (length columns.old) }
     ensures words { columns.new ≡ to_columns_out table.now columns.old }
 {
-    let answer = reorder_answer(table, columns.len());
-    if let Answer::Refused { number, place } = answer {
-        return Answer::Refused { number, place };
-    }
+    let words = reorder_answer(table, columns.len())?;
     put_columns(table, columns);
-    Answer::Done(table.len())
+    Ok(words)
 }
 
 // Word c of row i, where the rows before it are in the table.
@@ -109,7 +96,7 @@ fn restored_word(columns: &[u32], i: usize, c: usize, table: &[u32]) -> u32
     if i == 0 {
         return word;
     }
-    wrapping_add_u32(word, word_at(table, i - 1, c))
+    word.wrapping_add(word_at(table, i - 1, c))
 }
 
 // Writes row i, where the rows before it are in the table.
@@ -119,10 +106,8 @@ fn put_row(columns: &[u32], i: usize, table: &mut [u32])
     ensures { table.new ≡ sets table.old (row_words * i)
         (words_below (restored_word (row_count columns.now) columns.now i) row_words) }
 {
-    let mut c = 0;
-    while c < ROW_WORDS {
+    for c in 0..ROW_WORDS {
         table[ROW_WORDS * i + c] = restored_word(columns, i, c, table);
-        c += 1;
     }
 }
 
@@ -131,11 +116,8 @@ fn put_rows(columns: &[u32], table: &mut [u32])
     requires { length columns.now ≤ length table.old }
     ensures { table.new ≡ sets table.old 0 (from_columns row_words columns.now) }
 {
-    let n = columns.len() / ROW_WORDS;
-    let mut i = 0;
-    while i < n {
+    for i in 0..columns.len() / ROW_WORDS {
         put_row(columns, i, table);
-        i += 1;
     }
 }
 
@@ -144,10 +126,7 @@ pub fn from_columns(columns: &[u32], table: &mut [u32]) -> Answer
     ensures answer { result ≡ from_columns_answer columns.now (length table.old) }
     ensures words { table.new ≡ from_columns_out columns.now table.old }
 {
-    let answer = reorder_answer(columns, table.len());
-    if let Answer::Refused { number, place } = answer {
-        return Answer::Refused { number, place };
-    }
+    let words = reorder_answer(columns, table.len())?;
     put_rows(columns, table);
-    Answer::Done(columns.len())
+    Ok(words)
 }

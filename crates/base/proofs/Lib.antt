@@ -1,4 +1,5 @@
 pub mod Bools
+pub mod Ranges
 pub mod Search
 pub mod Copies
 pub mod Lists

@@ -16,8 +16,10 @@ use Rattle.tables.specs.Rules.{check_rule, accepted_rule}
 use Rattle.tables.specs.Tables.{row_limit, check_table, accepted_table}
 use Rattle.tables.specs.Files.{Format, count_names, count_format, refusal_names, refusal_format, is_last, next_column, told_next}
 use Rattle.tables.specs.Files.{word_text, text_from, lines_text, write_text, check_file}
-use Rattle.tables.specs.declared.Answer.{Answer}
-use Rattle.tables.specs.declared.Answer.TheVariants.{Done, Refused}
+use Rattle.tables.specs.Answers.{Answer}
+use Rattle.tables.specs.Answers.{Done}
+use Rattle.tables.specs.Refusals.{number_of}
+use Rattle.std.specs.Prelude.{Err}
 use Rattle.tables.proofs.Answers.{and_then_first, and_then_next, unless_next}
 use Rattle.tables.proofs.Accepted.{few_rows}
 use Rattle.tables.proofs.Digits.{digits_few}
@@ -32,6 +34,7 @@ use Rattle.checker.specs.Report.{refusal_text, text_of, report_text, report_leng
 use Rattle.checker.proofs.Sizes.{Small, small_then, small_rule_file, small_pool_file, small_sized}
 use Rattle.checker.proofs.OwnRows.{count_few}
 use Rattle.checker.proofs.Marks.{marked_few, one_few}
+use Rattle.tables.specs.declared.Fault.TheVariants.{RuleLength, TableLength, ShortOutput}
 
 -- a number of at most n + 1 digits, the byte after it, and the rest
 number_few : (f : Format) (c w : ℕ) (ws : List ℕ) (n : ℕ) → w < 10 ^ suc n
@@ -96,17 +99,17 @@ module _ (rule pool : List ℕ) (rule_ok : accepted_rule rule ≡ true) (ok : ac
 pub report_few : (rf pf : List ℕ) → length (report_text rf pf) ≤ 64
 unfolding report_text report_answer
 report_few rf pf =
-    go (and_then (sized 1 rf (rule_file rf)) (sized 8 pf (pool_file pf)))
-    (small_then (file_limit + row_limit) (sized 1 rf (rule_file rf)) _
-    (small_sized 1 rf (rule_file rf) (omega arith) (small_rule_file rf)) (small_sized 8 pf (pool_file pf) (omega arith) (small_pool_file pf)))
+    go (and_then (sized RuleLength rf (rule_file rf)) (sized TableLength pf (pool_file pf)))
+    (small_then (file_limit + row_limit) (sized RuleLength rf (rule_file rf)) _
+    (small_sized RuleLength rf (rule_file rf) (omega arith) (small_rule_file rf)) (small_sized TableLength pf (pool_file pf) (omega arith) (small_pool_file pf)))
     (λ e. text_few (rule_of rf) (pool_of pf)
-    (and_then_next (check_file _ _ rf) (check_rule (rule_of rf)) (unless_next (leb (length rf) file_limit) 1 (rule_file rf) (and_then_first (sized 1 rf (rule_file rf)) _ e)))
-    (and_then_next (check_file _ _ pf) (check_table (pool_of pf)) (unless_next (leb (length pf) file_limit) 8 (pool_file pf) (and_then_next (sized 1 rf (rule_file rf)) _ e))))
+    (and_then_next (check_file _ _ rf) (check_rule (rule_of rf)) (unless_next (leb (length rf) file_limit) RuleLength (rule_file rf) (and_then_first (sized RuleLength rf (rule_file rf)) _ e)))
+    (and_then_next (check_file _ _ pf) (check_table (pool_of pf)) (unless_next (leb (length pf) file_limit) TableLength (pool_file pf) (and_then_next (sized RuleLength rf (rule_file rf)) _ e))))
   where
     go : (a : Answer) → Small (file_limit + row_limit) a → (is_done a ≡ true → length (counts_text (counts (rule_of rf) (pool_of pf))) ≤ 64)
         → length (text_of a (counts (rule_of rf) (pool_of pf))) ≤ 64
     go (Done n) s h = h refl
-    go (Refused k p) s h = refusal_few k p s.number_le s.place_le
+    go (Err r) s h = refusal_few (number_of r.fault) r.place s.number_le s.place_le
 
 -- and is printed whole in one
 pub report_printed : (rf pf : List ℕ) (room : ℕ) → 64 ≤ room → report_length rf pf room ≡ length (report_text rf pf)
@@ -116,6 +119,6 @@ report_printed rf pf room h = rw (le-leb (length (report_text rf pf)) room (omeg
 pub report_within : (rf pf out out' : List ℕ) (r : ℕ) → r ≡ report_length rf pf (length out) → out' ≡ report_out rf pf out → r ≤ length out'
 report_within rf pf out out' r e w = rw (e, w) (go (report_text rf pf) (leb (length (report_text rf pf)) (length out)))
   where
-    go : (text : List ℕ) (b : Bool) → value (unless b 17 (Done (length text))) ≤ length (output (unless b 17 (Done (length text))) text out)
+    go : (text : List ℕ) (b : Bool) → value (unless b ShortOutput (Done (length text))) ≤ length (output (unless b ShortOutput (Done (length text))) text out)
     go text true = omega (arith, length-append text (drop (length text) out))
     go text false = omega arith

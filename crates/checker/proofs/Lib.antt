@@ -6,3 +6,4 @@ pub mod OwnRows
 pub mod Sizes
 pub mod Steps
 pub mod Texts
+pub mod Values

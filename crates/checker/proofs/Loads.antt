@@ -1,44 +1,69 @@
 -- Loading a file into a buffer: each answer from those of reading and of checking. Assumes nothing.
 use Prim.Native.Nat.{ℕ, ◌≤◌, ◌<◌}
 use mathlib.Core.Path.{◌≡◌, sym, ap, ◌∙◌}
-use mathlib.Core.Bool.{true}
+use mathlib.Core.Bool.{Bool, true, false, cond}
 use mathlib.Core.List.{List, ◌++◌}
 use native.Mathlib.Omega.{arith}
 use lib.ListN.{length, take, drop, length-append}
 use lib.Seq.{take_at}
+use lib.Dec.{eqb}
+use borrow.Author.Tests.{eqb-true, eqb-false}
+use Rattle.std.specs.Prelude.{Err}
+use Rattle.base.proofs.Bools.{either}
+use Rattle.tables.specs.Answers.{Answer}
+use Rattle.tables.specs.Answers.{Done, Refused}
 use Rattle.tables.specs.Answers.{is_done, and_then}
+use Rattle.tables.specs.Refusals.{number_of}
 use Rattle.tables.specs.Files.{Format, read_words, check_file, read_answer, read_out}
-use Rattle.tables.specs.declared.Answer.{Answer}
-use Rattle.tables.specs.declared.Answer.TheVariants.{Done, Refused}
+use Rattle.tables.specs.declared.Fault.{Fault}
+use Rattle.tables.specs.declared.Fault.TheVariants.{ShortOutput}
+use Rattle.tables.specs.declared.Refusal.{Refusal}
 use Rattle.tables.proofs.Answers.{and_then_passed}
+use Rattle.tables.proofs.FaultNumbers.{same_number}
 use Rattle.tables.proofs.Calls.{read_done, read_refused, read_short}
 use Rattle.checker.specs.Files.{table_file}
-use Rattle.checker.specs.Loading.{Loaded}
+use Rattle.checker.specs.Loading.{Loaded, lines_answer}
 
 -- a refusal is no number of words
-not_done : (m p n : ℕ) → ◌≡◌ {A = Answer} (Refused m p) (Done n) → ⊥
-not_done m p n e = let z : ◌≡◌ {A = ℕ} 0 1 = cc in omega arith
+not_done : (r : Refusal) (n : ℕ) → ◌≡◌ {A = Answer} (Err r) (Done n) → ⊥
+not_done r n e = let z : ◌≡◌ {A = ℕ} 0 1 = cc in omega arith
 
-pub refusal : (checked : Answer) (words out : List ℕ) (m p : ℕ) → checked ≡ Refused m p → Loaded checked words (Refused m p) out
-refusal checked words out m p e = record {
+pub refusal : (checked : Answer) (words out : List ℕ) (r : Refusal) → checked ≡ Err r → Loaded checked words (Err r) out
+refusal checked words out r e = record {
   answer = rw e;
-  within = λ n z. absurd (not_done m p n z);
-  held = λ n z. absurd (not_done m p n z);
+  within = λ n z. absurd (not_done r n z);
+  held = λ n z. absurd (not_done r n z);
 }
 
-module _ (names : List ℕ) (f : Format) (check : List ℕ → Answer) (file out out' : List ℕ) (a : Answer) (ea : a ≡ read_answer names f file (length out)) (eo : out' ≡ read_out names f file out) where
-  -- more words than the buffer has
-  pub load_short : (long : ℕ) → ((ws : List ℕ) → length out < length ws → check ws ≡ Refused long 0) → (m p : ℕ) → a ≡ Refused m p → m ≡ 17
-      → Loaded (table_file names f check file) (read_words names f file) (Refused long 0) out'
-  load_short long over m p e h =
-      let s = read_short names f file (length out) p (sym ea ∙ e ∙ ap (λ (n : ℕ). Refused n p) h) in
-      refusal _ _ _ long 0 (and_then_passed (check_file names f file) _ s.passed ∙ over (read_words names f file) s.over)
+-- ---- too many lines have a fault of their own
+lines_done : (k : Fault) (a : Answer) (n : ℕ) → lines_answer k a ≡ Done n → a ≡ Done n
+lines_done k (Done m) n e = e
+lines_done k (Err r) n e = go (eqb (number_of r.fault) (number_of ShortOutput)) e
+  where
+    go : (b : Bool) → ◌≡◌ {A = Answer} (cond b (Refused k 0) (Err r)) (Done n) → ◌≡◌ {A = Answer} (Err r) (Done n)
+    go true z = absurd (not_done _ n z)
+    go false z = z
 
-  -- 18 or 19
-  pub load_refused : (m p : ℕ) → a ≡ Refused m p → (m ≡ 17 → ⊥) → Loaded (table_file names f check file) (read_words names f file) (Refused m p) out'
-  load_refused m p e h = refusal _ _ _ m p (ap (λ (x : Answer). and_then x (check (read_words names f file))) (read_refused names f file (length out) m p (sym ea ∙ e) h))
+module _ (names : List ℕ) (f : Format) (check : List ℕ → Answer) (file out out' : List ℕ) (a : Answer) (ea : a ≡ read_answer names f file (length out)) (eo : out' ≡ read_out names f file out)
+    (k : Fault) (s : Answer) (es : s ≡ lines_answer k a) where
+  -- the file's refusal, 18 or 19, or more words than the buffer has
+  pub load_refused : ((ws : List ℕ) → length out < length ws → check ws ≡ Refused k 0) → (r : Refusal) → s ≡ Err r
+      → Loaded (table_file names f check file) (read_words names f file) (Err r) out'
+  load_refused over r e = refusal _ _ _ r (go a (sym ea) (sym es ∙ e))
+    where
+      go : (x : Answer) → read_answer names f file (length out) ≡ x → lines_answer k x ≡ Err r → table_file names f check file ≡ Err r
+      go (Done n) q z = absurd (not_done r n (sym z))
+      go (Err x) q z = either (eqb (number_of x.fault) (number_of ShortOutput))
+          (λ t. let short = same_number x.fault ShortOutput (eqb-true _ _ t) in
+          let w = read_short names f file (length out) x.place (q ∙ ap (λ (m : Fault). Refused m x.place) short) in
+          and_then_passed (check_file names f file) _ w.passed ∙ over (read_words names f file) w.over ∙ (rw t at z))
+          (λ t. let w = read_refused names f file (length out) x.fault x.place q (λ m. eqb-false _ _ t (ap number_of m)) in
+          ap (λ (c : Answer). and_then c (check (read_words names f file))) w ∙ (rw t at z))
 
-  module _ (n : ℕ) (e : a ≡ Done n) where
+  module _ (n : ℕ) (done : s ≡ Done n) where
+    e : a ≡ Done n
+    e = lines_done k a n (sym es ∙ done)
+
     begins : out' ≡ read_words names f file ++ drop (length (read_words names f file)) out
     unfolding read_out
     begins = eo ∙ rw (sym ea ∙ e)
@@ -59,13 +84,13 @@ module _ (names : List ℕ) (f : Format) (check : List ℕ → Answer) (file out
     checks r er = and_then_passed (check_file names f file) _ passed ∙ sym (er ∙ ap check words)
 
     -- the table has a fault
-    pub load_fault : (r : Answer) (m p : ℕ) → r ≡ check (take n out') → r ≡ Refused m p → Loaded (table_file names f check file) (read_words names f file) (Refused m p) out'
-    load_fault r m p er w = refusal _ _ _ m p (checks r er ∙ w)
+    pub load_fault : (x : Answer) (r : Refusal) → x ≡ check (take n out') → x ≡ Err r → Loaded (table_file names f check file) (read_words names f file) (Err r) out'
+    load_fault x r ex w = refusal _ _ _ r (checks x ex ∙ w)
 
     -- it has none
-    pub load_accepted : (r : Answer) (x : ℕ) → r ≡ check (take n out') → r ≡ Done x → Loaded (table_file names f check file) (read_words names f file) (Done n) out'
-    load_accepted r x er w = record {
-      answer = rw (checks r er ∙ w, count);
+    pub load_accepted : (x : Answer) (m : ℕ) → x ≡ check (take n out') → x ≡ Done m → Loaded (table_file names f check file) (read_words names f file) (Done n) out'
+    load_accepted x m ex w = record {
+      answer = rw (checks x ex ∙ w, count);
       within = λ m z. let q : n ≡ m = same m z in omega (arith, load_within);
       held = λ m z. ap (λ (i : ℕ). take i out') (sym (same m z)) ∙ words;
     }

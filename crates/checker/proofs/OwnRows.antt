@@ -8,19 +8,21 @@ use native.Mathlib.Omega.{arith}
 use lib.ListN.{length, take, drop, take-append-drop, length-drop, replicate, length-replicate}
 use lib.Seq.{length-take-le}
 use lib.Dec.{eqb, ltb, leb}
+use Rattle.std.specs.Prelude.{Option, Some, None}
+use Rattle.std.specs.Option.{MatchOption, unwrap_or}
 use borrow.Author.Tests.{eq-eqb, ne_eqb, eqb-true, eqb-false, not-true, ltb-true, ltb-false, le-leb, lt-leb}
 use Rattle.base.specs.Lists.{◌∈◌, select}
 use Rattle.base.proofs.Bools.{either}
 use Rattle.base.proofs.Lists.{select_append, select_all, select_none, select_out, length_select}
-use Rattle.base.proofs.Search.{Passed, begin, miss, first_le}
+use Rattle.base.proofs.Search.{Passed, begin, hit, miss, none, first_le}
 use Rattle.tables.specs.Answers.{value, unless}
 use Rattle.tables.specs.Words.{row_words, row_at, row_count, rows}
 use Rattle.tables.specs.Rules.{check_rule, accepted_rule}
 use Rattle.tables.specs.Tables.{row_limit, accepted_table}
 use Rattle.tables.specs.Devices.{from_device}
 use Rattle.tables.specs.declared.Row.{Row}
-use Rattle.tables.specs.declared.Answer.{Answer}
-use Rattle.tables.specs.declared.Answer.TheVariants.{Done}
+use Rattle.tables.specs.Answers.{Answer}
+use Rattle.tables.specs.Answers.{Done}
 use Rattle.tables.proofs.Answers.{unless_passed}
 use Rattle.tables.proofs.Words.{row_left, row_right}
 use Rattle.tables.proofs.Accepted.{whole_rows, few_rows, rises, in_part, of_device_lem, parent_device}
@@ -30,7 +32,10 @@ use Rattle.logic.specs.Parts.{part_by, branch_part, full_part, part_of, words_of
 use Rattle.logic.proofs.Words.{is_whole, length_words, rows_words, words_rows}
 use Rattle.logic.proofs.Selections.{kept_accepted}
 use Rattle.logic.proofs.Calls.{part_is}
+use Rattle.std.specs.Result.{result_unwrap_or}
+use Rattle.checker.proofs.Values.{value_is}
 use Rattle.checker.specs.Report.{device_rows, begins, part_count, count_at}
+use Rattle.tables.specs.declared.Fault.TheVariants.{ShortOutput}
 
 -- ---- three runs of whole rows, of which the middle one has the rows of device d
 module _ (A M B : List ℕ) (m n : ℕ) (d : ℕ) (la : length A ≡ row_words * m) (lm : length M ≡ row_words * n)
@@ -83,13 +88,24 @@ module _ (t : List ℕ) (ok : accepted_table t ≡ true) (i : ℕ) (h : i < row_
   abbrev d : ℕ
   d = (row_at t i).device
 
-  abbrev behind : ℕ → Bool
+  abbrev pub behind : ℕ → Bool
   behind k = leb (d + 1) (row_at t k).device
 
-  -- the search for its end may begin at row i
-  pub passed : (k : ℕ) → k ≤ i → Passed behind (row_count t) k
-  passed zero l = begin _ _
-  passed (suc k) l = subst (Passed behind (row_count t)) (add-one k) (miss behind (row_count t) k (passed k (omega arith)) (omega arith) (not_behind d (row_at t k).device (rises t ok k i (omega arith) h)))
+  -- a search for its end from row i on finds it
+  passed : (k : ℕ) → k ≤ row_count t → ((j : ℕ) → j < k → behind j ≡ false) → Passed behind (row_count t) k
+  passed zero l m = begin _ _
+  passed (suc k) l m = subst (Passed behind (row_count t)) (add-one k) (miss behind (row_count t) k (passed k (omega arith) (λ j q. m j (omega arith))) (omega arith) (m k (omega arith)))
+
+  below : (e : ℕ) → ((k : ℕ) → i ≤ k → k < e → behind k ≡ false) → (k : ℕ) → k < e → behind k ≡ false
+  below e m k l = either (ltb k i)
+      (λ s. not_behind d (row_at t k).device (rises t ok k i (omega (arith, ltb-true k i s)) h))
+      (λ s. m k (ltb-false k i s) l)
+
+  pub found_end : (n : ℕ) → n ≡ row_count t → (r : Option ℕ)
+      → MatchOption r ((k : ℕ) → i ≤ k → k < n → behind k ≡ false) (λ e. (i ≤ e) × (e < n) × (behind e ≡ true) × ((k : ℕ) → i ≤ k → k < e → behind k ≡ false))
+      → (end : ℕ) → end ≡ unwrap_or r n → end ≡ from_device t (d + 1)
+  found_end n long None m end e = e ∙ long ∙ none behind (row_count t) (row_count t) (passed (row_count t) (omega arith) (below (row_count t) (λ k g l. m k g (omega arith)))) (omega arith)
+  found_end n long (Some x) m end e = e ∙ hit behind (row_count t) x (passed x (omega (arith, m.1)) (below x m.3)) (omega (arith, m.1)) m.2
 
   module _ (end : ℕ) (is : end ≡ from_device t (d + 1)) where
     pub ends : (i < end) × (row_words * end ≤ length t)
@@ -150,17 +166,17 @@ module _ (rule t : List ℕ) (rule_ok : accepted_rule rule ≡ true) (ok : accep
   count_few = omega (arith, part_few (formula rule ∷ []) mode (device_rows (rows t) d), own_few t ok d)
 
   pub part_count_lem : (words : List ℕ) (room : ℕ) (a : Answer) → words ≡ words_of (device_rows (rows t) d) → row_limit * row_words ≤ room
-      → a ≡ part_answer rule words mode room → (v : ℕ) → v ≡ value a → (v ≡ part_count (formula rule) mode t d) × (v ≤ row_limit)
+      → a ≡ part_answer rule words mode room → (v : ℕ) → v ≡ result_unwrap_or a 0 → (v ≡ part_count (formula rule) mode t d) × (v ≤ row_limit)
   part_count_lem words room a is h q v k =
       let D = device_rows (rows t) d in
       let out : List ℕ = replicate room 0 in
       let long : room ≡ length out = sym (length-replicate {A = ℕ} room 0) in
       let fits : length (words_of (part_of (formula rule ∷ []) mode D)) ≤ length out = omega (arith, length_words (part_of (formula rule ∷ []) mode D), count_few) in
-      let w : v ≡ part_count (formula rule) mode t d = k ∙ ap value (
+      let w : v ≡ part_count (formula rule) mode t d = k ∙ value_is a ∙ ap value (
       q ∙ ap₂ (λ (l : List ℕ) (n : ℕ). part_answer rule l mode n) is long
       ∙ part_is (check_rule rule) rule_ok (formula rule ∷ []) (words_of D) (own_accepted t ok d) d (λ r m. eqb-true r.device d (select_out (λ x. eqb x.device d) (rows t) (subst (λ (l : List Row). r ∈ l) (rows_words D) m)).1) mode low high out
-      ∙ ap (λ (l : List Row). unless (leb (length (words_of (part_of (formula rule ∷ []) mode l))) (length out)) 17 (Done (length (part_of (formula rule ∷ []) mode l)))) (rows_words D)
-      ∙ unless_passed (leb (length (words_of (part_of (formula rule ∷ []) mode D))) (length out)) 17 _ (le-leb _ _ fits)
+      ∙ ap (λ (l : List Row). unless (leb (length (words_of (part_of (formula rule ∷ []) mode l))) (length out)) ShortOutput (Done (length (part_of (formula rule ∷ []) mode l)))) (rows_words D)
+      ∙ unless_passed (leb (length (words_of (part_of (formula rule ∷ []) mode D))) (length out)) ShortOutput _ (le-leb _ _ fits)
       ) in
       (w, omega (arith, count_few))
 

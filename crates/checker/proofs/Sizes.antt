@@ -17,8 +17,8 @@ use Rattle.tables.specs.Rules.{one, to_constant, rule_length, entry_fault, rule_
 use Rattle.tables.specs.Tables.{row_limit, table_length, row_fault, table_checks, check_table}
 use Rattle.tables.specs.Files.{Format, rule_names, rule_format, pool_names, pool_format, step_of, scan_all, at_start, starts_with, at_line}
 use Rattle.tables.specs.Files.{at_end, lines, read_words, check_file}
-use Rattle.tables.specs.declared.Answer.{Answer}
-use Rattle.tables.specs.declared.Answer.TheVariants.{Done, Refused}
+use Rattle.tables.specs.Answers.{Answer}
+use Rattle.tables.specs.Answers.{Done, Refused}
 use Rattle.tables.specs.declared.reading.Scan.{Scan}
 use Rattle.tables.proofs.Whole.{rule_few, table_few}
 use Rattle.tables.proofs.Steps.{step_counted}
@@ -27,6 +27,10 @@ use Rattle.logic.specs.Verdict.{verdict}
 use Rattle.checker.specs.Files.{rule_of, pool_of, table_file, rule_file, pool_file, files_answer, returned}
 use Rattle.checker.specs.Loading.{largest_refusal}
 use Rattle.checker.specs.Report.{file_limit, sized}
+use Rattle.tables.specs.declared.Fault.TheVariants.{RuleLength, TableLength, FirstLine, Line}
+use Rattle.tables.specs.declared.Fault.{Fault}
+use Rattle.tables.specs.Refusals.{number_of}
+use Rattle.std.specs.Prelude.{Err}
 
 pub record Small (p : ℕ) (a : Answer) : Type 0 where
   pub number_le : number a ≤ largest_refusal
@@ -37,31 +41,31 @@ small_wider p q a h s = record { number_le = s.number_le; place_le = omega (arit
 
 pub small_then : (p : ℕ) (a b : Answer) → Small p a → Small p b → Small p (and_then a b)
 small_then p (Done n) b s t = t
-small_then p (Refused k q) b s t = s
+small_then p (Err r) b s t = s
 
-small_unless : (p : ℕ) (ok : Bool) (k : ℕ) (next : Answer) → k ≤ largest_refusal → (ok ≡ true → Small p next) → Small p (unless ok k next)
+small_unless : (p : ℕ) (ok : Bool) (k : Fault) (next : Answer) → number_of k ≤ largest_refusal → (ok ≡ true → Small p next) → Small p (unless ok k next)
 small_unless p true k next h s = s refl
 small_unless p false k next h s = record { number_le = h; place_le = omega arith }
 
 -- checks in order at n places
-small_order : (fault : ℕ → ℕ → Bool) (n : ℕ) (ks : List ℕ) → all (λ k. leb k largest_refusal) ks ≡ true → Small n (in_order fault n ks)
+small_order : (fault : Fault → ℕ → Bool) (n : ℕ) (ks : List Fault) → all (λ k. leb (number_of k) largest_refusal) ks ≡ true → Small n (in_order fault n ks)
 small_order fault n [] e = record { number_le = omega arith; place_le = omega arith }
-small_order fault n (k ∷ ks) e = go (some (fault k) n) (small_order fault n ks (and_right (leb k largest_refusal) (all (λ k. leb k largest_refusal) ks) e))
+small_order fault n (k ∷ ks) e = go (some (fault k) n) (small_order fault n ks (and_right (leb (number_of k) largest_refusal) (all (λ k. leb (number_of k) largest_refusal) ks) e))
   where
     go : (b : Bool) → Small n (in_order fault n ks) → Small n (cond b (Refused k (first (fault k) n)) (in_order fault n ks))
-    go true s = record { number_le = leb-true k largest_refusal (and_left (leb k largest_refusal) (all (λ k. leb k largest_refusal) ks) e); place_le = first_le (fault k) n }
+    go true s = record { number_le = leb-true (number_of k) largest_refusal (and_left (leb (number_of k) largest_refusal) (all (λ k. leb (number_of k) largest_refusal) ks) e); place_le = first_le (fault k) n }
     go false s = s
 
 small_rule : (r : List ℕ) → Small row_limit (check_rule r)
 unfolding check_entries
-small_rule r = small_unless row_limit (rule_length r) 1 _ (omega arith)
+small_rule r = small_unless row_limit (rule_length r) RuleLength _ (omega arith)
     (λ e. small_wider (entry_count r) row_limit _
     (omega (arith, rule_few r e))
     (small_order (entry_fault to_constant r) (entry_count r) rule_checks refl))
 
 small_table : (t : List ℕ) → Small row_limit (check_table t)
 unfolding check_table
-small_table t = small_unless row_limit (table_length t) 8 _ (omega arith)
+small_table t = small_unless row_limit (table_length t) TableLength _ (omega arith)
     (λ e. small_wider (row_count t) row_limit _ (table_few t e)
     (small_order (row_fault t) (row_count t) table_checks refl))
 
@@ -76,7 +80,7 @@ unfolding check_file
 small_lines names f file = go (starts_with names file) (at_line (at_end names f file))
   where
     go : (a b : Bool)
-        → Small (length file + row_limit) (cond a (cond b (Done (length (read_words names f file))) (Refused 19 (at_end names f file).line)) (Refused 18 1))
+        → Small (length file + row_limit) (cond a (cond b (Done (length (read_words names f file))) (Refused Line (at_end names f file).line)) (Refused FirstLine 1))
     go true true = record { number_le = omega arith; place_le = omega arith }
     go true false = record {
       number_le = omega arith;
@@ -96,14 +100,14 @@ pub small_pool_file : (file : List ℕ) → Small (length file + row_limit) (poo
 small_pool_file file = small_file pool_names pool_format check_table file small_table
 
 -- ---- the program's refusals: a place has at most five digits
-pub small_sized : (k : ℕ) (file : List ℕ) (next : Answer) → k ≤ largest_refusal → Small (length file + row_limit) next → Small (file_limit + row_limit) (sized k file next)
+pub small_sized : (k : Fault) (file : List ℕ) (next : Answer) → number_of k ≤ largest_refusal → Small (length file + row_limit) next → Small (file_limit + row_limit) (sized k file next)
 small_sized k file next h s = small_unless (file_limit + row_limit) (leb (length file) file_limit) k next h
     (λ e. small_wider (length file + row_limit) (file_limit + row_limit) next (omega (arith, leb-true (length file) file_limit e)) s)
 
 -- ---- what the C entry returns
 returned_then : (p : ℕ) (a b : Answer) → Small p a → returned b ≤ 100 + largest_refusal → returned (and_then a b) ≤ 100 + largest_refusal
 returned_then p (Done n) b s h = h
-returned_then p (Refused k q) b s h = omega (arith, s.number_le)
+returned_then p (Err r) b s h = omega (arith, s.number_le)
 
 pub returned_le : (rf pf : List ℕ) → returned (files_answer rf pf) ≤ 100 + largest_refusal
 unfolding files_answer

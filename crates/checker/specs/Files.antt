@@ -1,12 +1,13 @@
 -- 01, Around the engine: the C entry takes a rule file and a pool file as bytes. Assumes nothing.
-use Rattle.std.specs.Prelude.{ℕ, ◌+◌, List}
+use Rattle.std.specs.Prelude.{ℕ, ◌+◌, List, Err}
 use Rattle.tables.specs.Answers.{and_then}
+use Rattle.tables.specs.Refusals.{number_of}
 use Rattle.tables.specs.Words.{rows}
 use Rattle.tables.specs.Rules.{one, check_rule}
 use Rattle.tables.specs.Tables.{check_table}
 use Rattle.tables.specs.Files.{Format, rule_names, rule_format, pool_names, pool_format, read_words, check_file}
-use Rattle.tables.specs.declared.Answer.{Answer}
-use Rattle.tables.specs.declared.Answer.TheVariants.{Done, Refused}
+use Rattle.tables.specs.Answers.{Answer}
+use Rattle.tables.specs.Answers.{Done}
 use Rattle.logic.specs.Formulas.{formula}
 use Rattle.logic.specs.Verdict.{verdict}
 
@@ -36,4 +37,4 @@ files_answer rf pf = and_then (rule_file rf) (and_then (pool_file pf) (Done (one
 -- what the C entry returns: 0 false, 1 true, or 100 plus the refusal, without its place
 abbrev pub returned : Answer → ℕ
 returned (Done n) = n
-returned (Refused k p) = 100 + k
+returned (Err r) = 100 + number_of r.fault

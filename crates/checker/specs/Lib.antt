@@ -1,3 +1,4 @@
+pub mod Counting
 pub mod Files
 pub mod Loading
 pub mod Report

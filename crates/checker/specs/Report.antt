@@ -1,5 +1,5 @@
 -- 01, Around the engine: what the program prints. Assumes nothing.
-use Rattle.std.specs.Prelude.{ℕ, ◌-◌, Bool, cond, not, ◌||◌, List, [], ◌∷◌, length, eqb, leb}
+use Rattle.std.specs.Prelude.{ℕ, ◌-◌, Bool, cond, not, ◌||◌, List, [], ◌∷◌, length, eqb, leb, Err}
 use Rattle.base.specs.Lists.{select}
 use Rattle.base.specs.Search.{sum_below}
 use Rattle.tables.specs.Answers.{and_then, unless, value, fitting, output}
@@ -7,8 +7,11 @@ use Rattle.tables.specs.Words.{rows, row_at, row_count}
 use Rattle.tables.specs.Rules.{one}
 use Rattle.tables.specs.Files.{count_names, count_format, refusal_names, refusal_format, write_text}
 use Rattle.tables.specs.declared.Row.{Row}
-use Rattle.tables.specs.declared.Answer.{Answer}
-use Rattle.tables.specs.declared.Answer.TheVariants.{Done, Refused}
+use Rattle.tables.specs.Answers.{Answer}
+use Rattle.tables.specs.Answers.{Done}
+use Rattle.tables.specs.Refusals.{number_of}
+use Rattle.tables.specs.declared.Fault.{Fault}
+use Rattle.tables.specs.declared.Fault.TheVariants.{RuleLength, TableLength}
 use Rattle.logic.specs.Formulas.{Formula, formula}
 use Rattle.logic.specs.Verdict.{verdict}
 use Rattle.logic.specs.Marks.{marked}
@@ -21,12 +24,12 @@ abbrev pub file_limit : ℕ
 file_limit = 65536
 
 -- a longer one is that refusal, place 0, before its 18
-abbrev pub sized : ℕ → List ℕ → Answer → Answer
+abbrev pub sized : Fault → List ℕ → Answer → Answer
 sized k file next = unless (leb (length file) file_limit) k next
 
 -- the refusals of the program: rule file, rule, pool file, pool
 unfoldable pub report_answer : List ℕ → List ℕ → Answer
-report_answer rf pf = and_then (sized 1 rf (rule_file rf)) (sized 8 pf (pool_file pf))
+report_answer rf pf = and_then (sized RuleLength rf (rule_file rf)) (sized TableLength pf (pool_file pf))
 
 -- ---- the counts
 -- a device is all its rows
@@ -73,7 +76,7 @@ refusal_text k p = write_text refusal_names refusal_format (k ∷ p ∷ [])
 
 abbrev pub text_of : Answer → List ℕ → List ℕ
 text_of (Done n) words = counts_text words
-text_of (Refused k p) words = refusal_text k p
+text_of (Err r) words = refusal_text (number_of r.fault) r.place
 
 unfoldable pub report_text : List ℕ → List ℕ → List ℕ
 report_text rf pf = text_of (report_answer rf pf) (counts (rule_of rf) (pool_of pf))

@@ -14,11 +14,8 @@ fn check_pool(rule: &[u32], file: &[u8]) -> Answer
     ensures { result ≡ and_then (pool_file file.now) (verdict_answer rule.now (pool_of file.now)) }
 {
     let mut words = [0u32; TABLE_WORDS];
-    let answer = load_pool(file, &mut words);
-    match answer {
-        Answer::Done(n) => verdict(rule, &words[..n]),
-        Answer::Refused { number, place } => Answer::Refused { number, place },
-    }
+    let n = load_pool(file, &mut words)?;
+    verdict(rule, &words[..n])
 }
 
 // The verdict of the rule of a file on the pool of a file, or the first refusal.
@@ -26,21 +23,18 @@ fn check_both(rule: &[u8], pool: &[u8]) -> Answer
     ensures { result ≡ files_answer rule.now pool.now }
 {
     let mut words = [0u32; RULE_WORDS];
-    let answer = load_rule(rule, &mut words);
-    match answer {
-        Answer::Done(n) => check_pool(&words[..n], pool),
-        Answer::Refused { number, place } => Answer::Refused { number, place },
-    }
+    let n = load_rule(rule, &mut words)?;
+    check_pool(&words[..n], pool)
 }
 
 // The number that stands for an answer.
-fn number_of(answer: Answer) -> u32
+fn returned(answer: Answer) -> u32
     requires { returned answer ≤ 100 + largest_refusal }
     ensures { result ≡ returned answer }
 {
     match answer {
-        Answer::Done(n) => n as u32,
-        Answer::Refused { number, place: _ } => 100 + number,
+        Ok(n) => n as u32,
+        Err(refusal) => 100 + refusal.fault.number(),
     }
 }
 
@@ -48,5 +42,5 @@ fn number_of(answer: Answer) -> u32
 pub fn check_files(rule: &[u8], pool: &[u8]) -> u32
     ensures { result ≡ returned (files_answer rule.now pool.now) }
 {
-    number_of(check_both(rule, pool))
+    returned(check_both(rule, pool))
 }

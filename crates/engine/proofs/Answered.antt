@@ -1,11 +1,10 @@
 -- One law for each way through the calls, over plain variables. Assumes nothing.
-use Prim.Native.Nat.{ℕ, zero, suc, ◌+◌, ◌<◌, ◌≤◌}
+use Prim.Native.Nat.{ℕ, ◌+◌, ◌<◌, ◌≤◌}
 use mathlib.Core.Path.{◌≡◌, refl, sym, ap, ap₂, ◌∙◌}
 use mathlib.Core.Bool.{Bool, true}
-use mathlib.Core.List.{List, [], ◌∷◌, ◌++◌}
-use native.Mathlib.Numerals.{add-one}
+use mathlib.Core.List.{List, ◌++◌}
 use native.Mathlib.Omega.{arith}
-use lib.ListN.{length, drop, replicate, set, length-map}
+use lib.ListN.{length, drop, replicate, length-map}
 use lib.Seq.{sets, sets-eq}
 use lib.Dec.{leb}
 use borrow.Author.Tests.{le-leb, lt-leb}
@@ -13,8 +12,8 @@ use Rattle.tables.specs.Answers.{is_done, and_then, unless, fitting, output}
 use Rattle.tables.specs.Words.{row_count, rows}
 use Rattle.tables.specs.Rules.{one, to_constant, around_from, check_rule, accepted_rule}
 use Rattle.tables.specs.Tables.{check_table, accepted_table}
-use Rattle.tables.specs.declared.Answer.{Answer}
-use Rattle.tables.specs.declared.Answer.TheVariants.{Done, Refused}
+use Rattle.tables.specs.Answers.{Answer}
+use Rattle.tables.specs.Answers.{Done, Refused}
 use Rattle.tables.proofs.Answers.{and_then_first, and_then_next}
 use Rattle.tables.proofs.AcceptedRule.{some_entry}
 use Rattle.tables.proofs.RowLists.{length_rows}
@@ -29,29 +28,20 @@ use Rattle.engine.specs.Marked.{mark_in, reason_at}
 use Rattle.engine.specs.declared.bindings.Bindings.{Bindings}
 use Rattle.engine.proofs.Bound.{meant_fresh, placed_fresh}
 use Rattle.engine.proofs.Marking.{mark_zeros}
+use Rattle.tables.specs.declared.Fault.TheVariants.{ShortOutput}
+use Rattle.tables.specs.declared.Refusal.{Refusal}
+use Rattle.std.specs.Prelude.{Err}
 
 -- ---- answers after one another
 pub next_answer : {r t T : Answer} {n : ℕ} → r ≡ Done n → t ≡ T → t ≡ and_then r T
 next_answer {T = T} h t-is = t-is ∙ ap (λ (a : Answer). and_then a T) (sym h)
 
-pub refused_answer : {r : Answer} (T : Answer) {k p : ℕ} → r ≡ Refused k p → Refused k p ≡ and_then r T
+pub refused_answer : {r : Answer} (T : Answer) {e : Refusal} → r ≡ Err e → Err e ≡ and_then r T
 refused_answer T h = ap (λ (a : Answer). and_then a T) (sym h)
 
 pub then_assoc : (R T X : Answer) → and_then (and_then R T) X ≡ and_then R (and_then T X)
 then_assoc (Done n) T X = refl
-then_assoc (Refused k p) T X = refl
-
--- ---- bytes set to 0 one after the other
-pub cleared_more : (m out : List ℕ) (i : ℕ) → i < length m → out ≡ replicate i 0 ++ drop i m → set out i 0 ≡ replicate (i + 1) 0 ++ drop (i + 1) m
-cleared_more m out i h e = rw (e, add-one) (go m i h)
-  where
-    go : (m : List ℕ) (i : ℕ) → i < length m → set (replicate i 0 ++ drop i m) i 0 ≡ replicate (suc i) 0 ++ drop (suc i) m
-    go [] i h = absurd (omega arith)
-    go (x ∷ m) zero h = refl
-    go (x ∷ m) (suc i) h = ap (◌∷◌ 0) (go m i (omega arith))
-
-pub cleared_all : (m out : List ℕ) (i n : ℕ) → i ≤ n → n ≤ i → out ≡ replicate i 0 ++ drop i m → out ≡ replicate n 0 ++ drop n m
-cleared_all m out i n h l e = e ∙ ap (λ (k : ℕ). replicate k 0 ++ drop k m) (let q : i ≡ n = omega arith in q)
+then_assoc (Err r) T X = refl
 
 -- ---- where the evaluator starts, on an accepted rule and table
 module _ (rule pool : List ℕ) (rule_ok : accepted_rule rule ≡ true) (pool_ok : accepted_table pool ≡ true) {b : Bindings} (b_is : b ≡ fresh) where
@@ -81,7 +71,7 @@ module _ (checked : Answer) (pool : List ℕ) {x a : Answer} (x_is : x ≡ check
   a_is = a_of ∙ ap (λ (z : Answer). and_then z (check_table pool)) x_is
 
   -- a refusal stands
-  refused : {k p : ℕ} → a ≡ Refused k p → (X : Answer) → Refused k p ≡ and_then checked (and_then (check_table pool) X)
+  refused : {r : Refusal} → a ≡ Err r → (X : Answer) → Err r ≡ and_then checked (and_then (check_table pool) X)
   refused h X = ap (λ (r : Answer). and_then r X) (sym h ∙ a_is) ∙ then_assoc checked (check_table pool) X
 
   module _ {n : ℕ} (h : a ≡ Done n) where
@@ -99,15 +89,15 @@ module _ (checked : Answer) (pool : List ℕ) {x a : Answer} (x_is : x ≡ check
 
 -- ---- one rule
 module _ (rule pool : List ℕ) {x a : Answer} (x_is : x ≡ check_rule rule) (a_of : a ≡ and_then x (check_table pool)) where
-  module _ {k p : ℕ} (h : a ≡ Refused k p) where
-    pub verdict_refused : Refused k p ≡ meaning.verdict_answer rule pool
+  module _ {r : Refusal} (h : a ≡ Err r) where
+    pub verdict_refused : Err r ≡ meaning.verdict_answer rule pool
     unfolding meaning.verdict_answer
     verdict_refused = refused (check_rule rule) pool x_is a_of h _
 
-    pub marks_refused : (out : List ℕ) → (Refused k p ≡ marks_answer rule pool (length out)) × (out ≡ marks_out rule pool out)
+    pub marks_refused : (out : List ℕ) → (Err r ≡ marks_answer rule pool (length out)) × (out ≡ marks_out rule pool out)
     unfolding marks_answer marks_out
     marks_refused out =
-        let e = refused (check_rule rule) pool x_is a_of h (unless (leb (row_count pool) (length out)) 17 (Done (one (meaning.verdict (formula rule) (rows pool))))) in
+        let e = refused (check_rule rule) pool x_is a_of h (unless (leb (row_count pool) (length out)) ShortOutput (Done (one (meaning.verdict (formula rule) (rows pool))))) in
         (e, sym (rw (← e)))
 
   module _ {n : ℕ} (h : a ≡ Done n) where
@@ -136,15 +126,15 @@ module _ (rule pool : List ℕ) {x a : Answer} (x_is : x ≡ check_rule rule) (a
             ∙ sym (rw done),
       )
         where
-          done : and_then (check_rule rule) (and_then (check_table pool) (unless (leb (row_count pool) (length out)) 17 (Done (one (meaning.verdict (formula rule) (rows pool)))))) ≡ Done (one (meaning.verdict (formula rule) (rows pool)))
+          done : and_then (check_rule rule) (and_then (check_table pool) (unless (leb (row_count pool) (length out)) ShortOutput (Done (one (meaning.verdict (formula rule) (rows pool)))))) ≡ Done (one (meaning.verdict (formula rule) (rows pool)))
           done = through _ ∙ rw (le-leb (row_count pool) (length out) l)
 
     -- 17
-    pub marks_short : (out : List ℕ) → length out < row_count pool → (Refused 17 0 ≡ marks_answer rule pool (length out)) × (out ≡ marks_out rule pool out)
+    pub marks_short : (out : List ℕ) → length out < row_count pool → (Refused ShortOutput 0 ≡ marks_answer rule pool (length out)) × (out ≡ marks_out rule pool out)
     unfolding marks_answer marks_out
     marks_short out l = (sym short, sym (rw short))
       where
-        short : and_then (check_rule rule) (and_then (check_table pool) (unless (leb (row_count pool) (length out)) 17 (Done (one (meaning.verdict (formula rule) (rows pool)))))) ≡ Refused 17 0
+        short : and_then (check_rule rule) (and_then (check_table pool) (unless (leb (row_count pool) (length out)) ShortOutput (Done (one (meaning.verdict (formula rule) (rows pool)))))) ≡ Refused ShortOutput 0
         short = through _ ∙ rw (lt-leb (row_count pool) (length out) l)
 
 -- ---- a set
@@ -159,7 +149,7 @@ module _ (rules counts pool : List ℕ) {x a : Answer} (x_is : x ≡ check_set r
   unfolding meaning.set_verdicts_out
   out_is z e = ap (λ (y : Answer). output y bytes out) e
 
-  pub verdicts_refused : {k p : ℕ} → a ≡ Refused k p → (Refused k p ≡ answer) × (out ≡ meaning.set_verdicts_out rules counts pool out)
+  pub verdicts_refused : {r : Refusal} → a ≡ Err r → (Err r ≡ answer) × (out ≡ meaning.set_verdicts_out rules counts pool out)
   unfolding meaning.set_verdicts_answer
   verdicts_refused h = let e = refused (check_set rules counts) pool x_is a_of h (fitting bytes (length out)) in (e, sym (out_is _ (sym e)))
 
@@ -175,14 +165,14 @@ module _ (rules counts pool : List ℕ) {x a : Answer} (x_is : x ≡ check_set r
     unfolding meaning.set_verdicts_answer
     fitting_is = passed (check_set rules counts) pool x_is a_of h (fitting bytes (length out))
 
-    pub verdicts_short : length out < length counts → (Refused 17 0 ≡ answer) × (out ≡ meaning.set_verdicts_out rules counts pool out)
+    pub verdicts_short : length out < length counts → (Refused ShortOutput 0 ≡ answer) × (out ≡ meaning.set_verdicts_out rules counts pool out)
     verdicts_short l =
-        let e : answer ≡ Refused 17 0 = fitting_is ∙ ap (λ (b : Bool). unless b 17 (Done (length bytes))) (lt-leb (length bytes) (length out) (omega (arith, bytes_count))) in
+        let e : answer ≡ Refused ShortOutput 0 = fitting_is ∙ ap (λ (b : Bool). unless b ShortOutput (Done (length bytes))) (lt-leb (length bytes) (length out) (omega (arith, bytes_count))) in
         (sym e, sym (out_is _ e))
 
     pub verdicts_done : length counts ≤ length out → {out' : List ℕ} → out' ≡ sets out 0 bytes → (Done (length counts) ≡ answer) × (out' ≡ meaning.set_verdicts_out rules counts pool out)
     verdicts_done l {out'} out'-is =
-        let e : answer ≡ Done (length bytes) = fitting_is ∙ ap (λ (b : Bool). unless b 17 (Done (length bytes))) (le-leb (length bytes) (length out) (omega (arith, bytes_count))) in
+        let e : answer ≡ Done (length bytes) = fitting_is ∙ ap (λ (b : Bool). unless b ShortOutput (Done (length bytes))) (le-leb (length bytes) (length out) (omega (arith, bytes_count))) in
         let z : 0 + length bytes ≡ length bytes = omega arith in (
           ap Done (sym bytes_count) ∙ sym e,
           out'-is ∙ sets-eq bytes out 0 (omega (arith, bytes_count)) ∙ ap (λ (j : ℕ). bytes ++ drop j out) z ∙ sym (out_is _ e),

@@ -1,7 +1,7 @@
 -- The code's bindings and those that they stand for: none bound, and one more. Assumes nothing.
 use Prim.Native.Nat.{ℕ, zero, suc, ◌+◌, ◌<◌, ◌≤◌}
-use mathlib.Core.Path.{◌≡◌, refl, ap, fun_ext, ◌∙◌}
-use mathlib.Core.Bool.{Bool, true, false, cond}
+use mathlib.Core.Path.{◌≡◌, refl, sym, ap, fun_ext, ◌∙◌}
+use mathlib.Core.Bool.{Bool, true, false, cond, true≢false}
 use mathlib.Core.List.{List}
 use native.Mathlib.Numerals.{add-one}
 use native.Mathlib.Omega.{arith}
@@ -14,7 +14,9 @@ use Rattle.tables.specs.Words.{row_at, row_count}
 use Rattle.tables.specs.Rules.{nesting_limit}
 use Rattle.tables.specs.Tables.{row_limit}
 use Rattle.logic.specs.Verdict as meaning
-use Rattle.engine.specs.Places.{fresh, bind_at, place_of, bindings_of}
+use Rattle.std.specs.Prelude.{Option, Some, None}
+use Rattle.std.specs.Option.{is_some}
+use Rattle.engine.specs.Places.{fresh, bind_at, row_of_place, place_of, bindings_of}
 use Rattle.engine.specs.Ready.{Placed, meant}
 use Rattle.engine.specs.declared.bindings.Bindings.{Bindings}
 
@@ -63,3 +65,16 @@ module _ (pool : List ℕ) (b : Bindings) (placed : Placed pool b) (room : b.dep
 -- a row's place
 pub place_row : (pool : List ℕ) (i : ℕ) → place_of pool (i + 1) ≡ meaning.bound (row_at pool i)
 place_row pool i = ap (place_of pool) (add-one i)
+
+-- the row of a place
+pub row_none : (p : ℕ) {r : Option ℕ} → r ≡ row_of_place p → r ≡ None → p ≡ 0
+row_none zero e h = refl
+row_none (suc i) e h = let z : Some i ≡ None = sym e ∙ h in cc
+
+pub row_some : (p : ℕ) {r : Option ℕ} {i : ℕ} → r ≡ row_of_place p → r ≡ Some i → p ≡ suc i
+row_some zero {i = i} e h = let z : None ≡ Some i = sym e ∙ h in cc
+row_some (suc j) {i = i} e h = let z : Some j ≡ Some i = sym e ∙ h in cc
+
+pub row_there : (p : ℕ) {r : Option ℕ} → r ≡ row_of_place p → is_some r ≡ true → p ≡ 0 → ⊥
+row_there zero e h z = true≢false (sym h ∙ ap is_some e)
+row_there (suc j) e h z = absurd (omega arith)

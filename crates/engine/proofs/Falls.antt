@@ -14,6 +14,10 @@ entry_measure rule pool e = (entry_count rule - e) * (row_count pool + 2)
 abbrev pub rows_measure : List ℕ → List ℕ → ℕ → ℕ → ℕ
 rows_measure rule pool e k = (entry_count rule - (e + 1)) * (row_count pool + 2) + k + 1
 
+-- of a quantifier with body a and k rows left
+abbrev pub run_measure : List ℕ → List ℕ → ℕ → ℕ → ℕ
+run_measure rule pool a k = (entry_count rule - a) * (row_count pool + 2) + k + 1
+
 pub below : {m n t : ℕ} → n ≡ t → m < n → m < t
 below e h = omega arith
 
@@ -40,3 +44,9 @@ module _ (n r e a : ℕ) where
 
   pub falls_part : (j k : ℕ) → j < k → (n - (e + 1)) * (r + 2) + j + 1 < (n - (e + 1)) * (r + 2) + k + 1
   falls_part j k h = omega arith
+
+  pub falls_run : (k : ℕ) → e < a → a < n → k ≤ r → (n - a) * (r + 2) + k + 1 < (n - e) * (r + 2)
+  falls_run k h l m =
+      let d : n - a ≤ n - (e + 1) = omega arith in
+      let f : e < n = omega arith in
+      omega (arith, mul-le-mul_right (r + 2) d, falls_rows k f m)

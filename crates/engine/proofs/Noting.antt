@@ -14,36 +14,31 @@ use Rattle.tables.specs.Words.{row_at, row_count}
 use Rattle.tables.specs.Tables.{row_limit, root, is_parent, accepted_table}
 use Rattle.tables.proofs.Accepted.{few_rows, ordered}
 use Rattle.tables.proofs.Ordered as tables
-use Rattle.engine.specs.Runs.{NoneNoted, RunsWithin, start_with}
+use Rattle.engine.specs.Runs.{no_children, NoneNoted, run_at, with_child, RunsWithin}
+use Rattle.engine.specs.declared.children.Children.{Children}
 
-zeros : (n i : ℕ) → get_or {A = ℕ} (replicate n 0) i 0 ≡ 0
-zeros zero i = refl
-zeros (suc n) zero = refl
-zeros (suc n) (suc i) = zeros n i
+nothing_at : (n i : ℕ) → get_or (replicate n no_children) i no_children ≡ no_children
+nothing_at zero i = refl
+nothing_at (suc n) zero = refl
+nothing_at (suc n) (suc i) = nothing_at n i
 
-module _ (xs : List ℕ) (none : NoneNoted xs) where
-  pub none_sized : length xs ≡ row_limit
-  none_sized = ap (λ (l : List ℕ). length l) none ∙ length-replicate {A = ℕ} row_limit 0
-
-  none_at : (i : ℕ) → get_or xs i 0 ≡ 0
-  none_at i = ap (λ (l : List ℕ). get_or l i 0) none ∙ zeros row_limit i
-
-pub noted_none : (t starts ends : List ℕ) → accepted_table t ≡ true → NoneNoted starts → NoneNoted ends → RunsWithin t starts ends 0
-noted_none t starts ends ok s e = record {
-  sized_starts = none_sized starts s;
-  sized_ends = none_sized ends e;
+pub noted_none : (t : List ℕ) (cs : List Children) → accepted_table t ≡ true → NoneNoted cs → RunsWithin t cs 0
+noted_none t cs ok none = record {
+  sized = ap (λ (l : List Children). length l) none ∙ length-replicate {A = Children} row_limit no_children;
   few = few_rows t ok;
-  ordered = λ p. omega (arith, none_at starts s p, none_at ends e p);
-  within = λ p. omega (arith, none_at ends e p);
+  ordered = λ p. omega (arith, ap (λ (c : Children). c.start) (none_at p), ap (λ (c : Children). c.end) (none_at p));
+  within = λ p. omega (arith, ap (λ (c : Children). c.end) (none_at p));
   covers = λ p j l m. absurd (omega arith);
 }
+  where
+    none_at : (p : ℕ) → run_at cs p ≡ no_children
+    none_at p = ap (λ (l : List Children). run_at l p) none ∙ nothing_at row_limit p
 
-module _ (t : List ℕ) (ok : accepted_table t ≡ true) (starts ends : List ℕ) (i : ℕ) (s : RunsWithin t starts ends i) (h : i < row_count t) where
+module _ (t : List ℕ) (ok : accepted_table t ≡ true) (cs : List Children) (i : ℕ) (s : RunsWithin t cs i) (h : i < row_count t) where
   -- a root is no row's child
-  pub noted_root : root (row_at t i) ≡ true → RunsWithin t starts ends (i + 1)
+  pub noted_root : root (row_at t i) ≡ true → RunsWithin t cs (i + 1)
   noted_root e = record {
-    sized_starts = s.sized_starts;
-    sized_ends = s.sized_ends;
+    sized = s.sized;
     few = s.few;
     ordered = s.ordered;
     within = λ p. omega (arith, s.within p);
@@ -56,42 +51,36 @@ module _ (t : List ℕ) (ok : accepted_table t ≡ true) (starts ends : List ℕ
 
   -- row i is noted as a child of row p
   module _ (p : ℕ) (l : p < i) (c : is_parent (row_at t i) (row_at t p) ≡ true) where
-    start : ℕ
-    start = start_with (get_or starts p 0) (get_or ends p 0) i
+    own : Children
+    own = with_child (run_at cs p) i
 
     -- nothing was noted, and it starts here; or it starts where it did
-    start_cases : ((get_or ends p 0 ≡ 0) × (start ≡ i)) ⊎ (start ≡ get_or starts p 0)
-    unfolding start
-    start_cases = either (eqb (get_or ends p 0) 0)
-        (λ q. inl (eqb-true (get_or ends p 0) 0 q, rw q refl))
+    start_cases : (((run_at cs p).end ≡ 0) × (own.start ≡ i)) ⊎ (own.start ≡ (run_at cs p).start)
+    unfolding own
+    start_cases = either (eqb (run_at cs p).end 0)
+        (λ q. inl (eqb-true (run_at cs p).end 0 q, rw q refl))
         (λ q. inr (rw q refl))
 
-    own_start : (start ≤ i) × ((j : ℕ) → j < i → is_parent (row_at t j) (row_at t p) ≡ true → start ≤ j)
+    own_start : (own.start ≤ i) × ((j : ℕ) → j < i → is_parent (row_at t j) (row_at t p) ≡ true → own.start ≤ j)
     own_start = ⊎_elim
         (λ q. (omega (arith, q.1), λ j m d. absurd (omega (arith, q.0, (s.covers p j (omega arith) m d).1))))
         (λ q. (omega (arith, q, s.ordered p, s.within p), λ j m d. omega (arith, q, (s.covers p j (omega arith) m d).0)))
         start_cases
 
-    -- the start and the end of a row are the new ones of row p, or those that it had
-    cases : (P : ℕ → ℕ → ℕ → Type 0) → P p start (i + 1) → ((q : ℕ) → (q ≡ p → ⊥) → P q (get_or starts q 0) (get_or ends q 0))
-        → (q : ℕ) → P q (get_or (set starts p start) q 0) (get_or (set ends p (i + 1)) q 0)
-    cases P own old q = either (eqb q p)
-        (λ e. rw (
-          eqb-true q p e,
-          get_or-set_same starts p start 0 (omega (arith, s.sized_starts, s.few)),
-          get_or-set_same ends p (i + 1) 0 (omega (arith, s.sized_ends, s.few)),
-        ) own)
-        (λ e. let n : (q ≡ p → ⊥) = eqb-false q p e in
-        rw (get_or-set_other starts p q start 0 n, get_or-set_other ends p q (i + 1) 0 n) (old q n))
+    -- the children of a row are the new ones of row p, or those that it had
+    cases : (P : ℕ → Children → Type 0) → P p own → ((q : ℕ) → (q ≡ p → ⊥) → P q (run_at cs q)) → (q : ℕ) → P q (run_at (set cs p own) q)
+    cases P new old q = either (eqb q p)
+        (λ e. rw (eqb-true q p e, get_or-set_same cs p own no_children (omega (arith, s.sized, s.few))) new)
+        (λ e. let n : (q ≡ p → ⊥) = eqb-false q p e in rw (get_or-set_other cs p q own no_children n) (old q n))
 
-    noted : RunsWithin t (set starts p start) (set ends p (i + 1)) (i + 1)
-    noted = record {
-      sized_starts = length-set starts p start ∙ s.sized_starts;
-      sized_ends = length-set ends p (i + 1) ∙ s.sized_ends;
+    pub noted_child : (cs' : List Children) → cs' ≡ set cs p (with_child (run_at cs p) i) → RunsWithin t cs' (i + 1)
+    unfolding own
+    noted_child cs' cs_is = rw cs_is (record {
+      sized = length-set cs p own ∙ s.sized;
       few = s.few;
-      ordered = cases (λ q a b. a ≤ b) (omega (arith, own_start.0)) (λ q n. s.ordered q);
-      within = cases (λ q a b. b ≤ i + 1) (omega arith) (λ q n. omega (arith, s.within q));
-      covers = λ q j m k d. cases (λ q a b. q < row_count t → is_parent (row_at t j) (row_at t q) ≡ true → (a ≤ j) × (j < b))
+      ordered = cases (λ q x. x.start ≤ x.end) (omega (arith, own_start.0)) (λ q n. s.ordered q);
+      within = cases (λ q x. x.end ≤ i + 1) (omega arith) (λ q n. omega (arith, s.within q));
+      covers = λ q j m k d. cases (λ q x. q < row_count t → is_parent (row_at t j) (row_at t q) ≡ true → (x.start ≤ j) × (j < x.end))
           (λ m d. (
             either (ltb j i)
                 (λ e. own_start.1 j (ltb-true j i e) d)
@@ -104,9 +93,4 @@ module _ (t : List ℕ) (ok : accepted_table t ≡ true) (starts ends : List ℕ
           absurd (n (tables.one_parent t (tables.placed t (ordered t ok)) q p i m (omega arith)
           (subst (λ (x : ℕ). is_parent (row_at t x) (row_at t q) ≡ true) z d) c))))
           q m d;
-    }
-
-    pub noted_child : (starts' ends' : List ℕ) → starts' ≡ set starts p (start_with (get_or starts p 0) (get_or ends p 0) i) → ends' ≡ set ends p (i + 1)
-        → RunsWithin t starts' ends' (i + 1)
-    unfolding start
-    noted_child starts' ends' s_is e_is = rw (s_is, e_is) noted
+    })

@@ -10,7 +10,7 @@ use Rattle.tables.specs.declared.Entry.{Entry}
 use Rattle.tables.proofs.AcceptedRule as entries
 use Rattle.logic.specs.Formulas.{Formula, negation, joined, quantified, compared, over_of, operand_of, build, formula_at}
 use Rattle.logic.proofs.Formulas.{formula_at_lem}
-use Rattle.engine.specs.Ready.{connective_of, quantifier_of, comparison_of}
+use Rattle.tables.specs.Nodes.{connective_kind, quantifier_kind, comparison_kind}
 
 pub record Opened (rule : List ℕ) (e : ℕ) (x : Entry) : Type 0 where
   pub formula_is : formula_at rule e ≡ build operand_of x (formula_at rule)
@@ -44,18 +44,18 @@ opened rule ok e h x x_is =
 
 -- ---- the formula by the entry's kind
 module _ (a b c : ℕ) (f : ℕ → Formula) where
-  connective : (k : ℕ) → k ≤ 2 → build operand_of (record { kind = 2 + k; a = a; b = b; c = c }) f ≡ joined (connective_of (2 + k)) (f a) (f b)
+  connective : (k : ℕ) → k ≤ 2 → build operand_of (record { kind = 2 + k; a = a; b = b; c = c }) f ≡ joined (connective_kind (2 + k)) (f a) (f b)
   connective zero h = refl
   connective (suc zero) h = refl
   connective (suc (suc zero)) h = refl
   connective (suc (suc (suc k))) h = absurd (omega arith)
 
-  quantifier : (k : ℕ) → k ≤ 1 → build operand_of (record { kind = 5 + k; a = a; b = b; c = c }) f ≡ quantified (quantifier_of (5 + k)) (over_of b) c (f a)
+  quantifier : (k : ℕ) → k ≤ 1 → build operand_of (record { kind = 5 + k; a = a; b = b; c = c }) f ≡ quantified (quantifier_kind (5 + k)) (over_of b) c (f a)
   quantifier zero h = refl
   quantifier (suc zero) h = refl
   quantifier (suc (suc k)) h = absurd (omega arith)
 
-  comparison : (k : ℕ) → k ≤ 2 → build operand_of (record { kind = 7 + k; a = a; b = b; c = c }) f ≡ compared (comparison_of (7 + k)) a (operand_of b c)
+  comparison : (k : ℕ) → k ≤ 2 → build operand_of (record { kind = 7 + k; a = a; b = b; c = c }) f ≡ compared (comparison_kind (7 + k)) a (operand_of b c)
   comparison zero h = refl
   comparison (suc zero) h = refl
   comparison (suc (suc zero)) h = refl
@@ -71,24 +71,24 @@ module _ (rule : List ℕ) (e : ℕ) (x : Entry) (o : Opened rule e x) where
   not_formula h = o.formula_is ∙ ap with_kind h
 
   module _ (h : 2 ≤ x.kind) (l : x.kind ≤ 4) where
-    pub joined_formula : formula_at rule e ≡ joined (connective_of x.kind) (formula_at rule x.a) (formula_at rule x.b)
+    pub joined_formula : formula_at rule e ≡ joined (connective_kind x.kind) (formula_at rule x.a) (formula_at rule x.b)
     unfolding with_kind
     joined_formula =
         o.formula_is
-        ∙ subst (λ (k : ℕ). with_kind k ≡ joined (connective_of k) (formula_at rule x.a) (formula_at rule x.b)) (let z : 2 + (x.kind - 2) ≡ x.kind = omega arith in z)
+        ∙ subst (λ (k : ℕ). with_kind k ≡ joined (connective_kind k) (formula_at rule x.a) (formula_at rule x.b)) (let z : 2 + (x.kind - 2) ≡ x.kind = omega arith in z)
         (connective x.a x.b x.c (formula_at rule) (x.kind - 2) (omega arith))
 
   module _ (h : 5 ≤ x.kind) (l : x.kind ≤ 6) where
-    pub quantified_formula : formula_at rule e ≡ quantified (quantifier_of x.kind) (over_of x.b) x.c (formula_at rule x.a)
+    pub quantified_formula : formula_at rule e ≡ quantified (quantifier_kind x.kind) (over_of x.b) x.c (formula_at rule x.a)
     unfolding with_kind
     quantified_formula =
         o.formula_is
-        ∙ subst (λ (k : ℕ). with_kind k ≡ quantified (quantifier_of k) (over_of x.b) x.c (formula_at rule x.a)) (let z : 5 + (x.kind - 5) ≡ x.kind = omega arith in z)
+        ∙ subst (λ (k : ℕ). with_kind k ≡ quantified (quantifier_kind k) (over_of x.b) x.c (formula_at rule x.a)) (let z : 5 + (x.kind - 5) ≡ x.kind = omega arith in z)
         (quantifier x.a x.b x.c (formula_at rule) (x.kind - 5) (omega arith))
 
-  pub compared_formula : 7 ≤ x.kind → formula_at rule e ≡ compared (comparison_of x.kind) x.a (operand_of x.b x.c)
+  pub compared_formula : 7 ≤ x.kind → formula_at rule e ≡ compared (comparison_kind x.kind) x.a (operand_of x.b x.c)
   unfolding with_kind
   compared_formula h =
       o.formula_is
-      ∙ subst (λ (k : ℕ). with_kind k ≡ compared (comparison_of k) x.a (operand_of x.b x.c)) (let z : 7 + (x.kind - 7) ≡ x.kind = omega arith in z)
+      ∙ subst (λ (k : ℕ). with_kind k ≡ compared (comparison_kind k) x.a (operand_of x.b x.c)) (let z : 7 + (x.kind - 7) ≡ x.kind = omega arith in z)
       (comparison x.a x.b x.c (formula_at rule) (x.kind - 7) (omega (arith, o.kind_range.1)))

@@ -13,8 +13,8 @@ use borrow.Author.Tests.{le-leb, lt-leb, leb-true}
 use Rattle.tables.specs.Answers.{value, is_done, and_then, unless}
 use Rattle.tables.specs.Words.{row_words, rows}
 use Rattle.tables.specs.Tables.{check_table, accepted_table}
-use Rattle.tables.specs.declared.Answer.{Answer}
-use Rattle.tables.specs.declared.Answer.TheVariants.{Done, Refused}
+use Rattle.tables.specs.Answers.{Answer}
+use Rattle.tables.specs.Answers.{Done, Refused}
 use Rattle.tables.proofs.Answers.{unless_ok, and_then_first, and_then_next, and_then_passed}
 use Rattle.sets.specs.Sets.{set_limit, check_set, accepted_set}
 use Rattle.plans.specs.Plans.{step_words, step_at, steps_from, step_count, steps_of, table_after}
@@ -27,6 +27,10 @@ use Rattle.logic.proofs.Runs.{accepted_after, table_fits, verdicts_fit}
 use Rattle.engine.specs.Trying.{byte_at, state_of, BeforeStep, Taken, StepEnd, Begun, outcome_from, Ran}
 use Rattle.engine.proofs.Answered.{then_assoc}
 use Rattle.engine.proofs.Stepping.{first_bytes}
+use Rattle.tables.specs.declared.Fault.TheVariants.{ShortOutput}
+use Rattle.std.specs.Prelude.{Err}
+use Rattle.tables.specs.Refusals.{number_of}
+use Rattle.tables.specs.declared.Refusal.{Refusal}
 
 -- ---- the words of a step
 module _ (steps : List ℕ) (k : ℕ) (h : step_words * k < length steps) where
@@ -81,10 +85,9 @@ module _ (rules counts steps : List ℕ) (words₀ : ℕ) (table₀ verdicts₀ 
     pub rest : outcome_from rules counts steps words₀ table₀ verdicts₀
         ≡ runs k (state_of n k words table verdicts) (steps_from steps k (step_count steps - k))
 
-  pub run_begin : Begun rules counts words₀ table₀ → Running 0 words₀ table₀ (replicate set_limit 0) verdicts₀
+  pub run_begin : Begun words₀ table₀ → Running 0 words₀ table₀ (replicate set_limit 0) verdicts₀
   run_begin w = record {
     standing = record {
-      set_accepted = w.set_accepted;
       table_accepted = w.table_accepted;
       words_inside = w.words_inside;
       bytes_inside = omega arith;
@@ -167,27 +170,27 @@ module _ (rules counts steps : List ℕ) (words₀ : ℕ) (table₀ verdicts₀ 
             ∙ ap₂ (λ (a b : ℕ). and_then (step_answer (formulas_of rules counts) a b k x s) (Done (length (table_after (take words table) s)))) r.same_table r.same_verdicts
 
         -- it is refused
-        module _ {m p : ℕ} (refused : answer ≡ Refused m p) where
-          here_refused : answer_here ≡ Refused m p
+        module _ {o : Refusal} (refused : answer ≡ Err o) where
+          here_refused : answer_here ≡ Err o
           here_refused = go answer_here (sym answer_is ∙ refused)
             where
-              go : (a : Answer) → and_then a (Done (length (table_after (take words table) s))) ≡ Refused m p → a ≡ Refused m p
+              go : (a : Answer) → and_then a (Done (length (table_after (take words table) s))) ≡ Err o → a ≡ Err o
               go (Done q) e = absurd (true≢false (ap is_done e))
-              go (Refused q o) e = e
+              go (Err q) e = e
 
-          pub run_stops : Ran rules counts steps words₀ table₀ verdicts₀ (record { number = m; place = p; steps = k; rows = words / row_words }) table' verdicts'
+          pub run_stops : Ran rules counts steps words₀ table₀ verdicts₀ (record { number = number_of o.fault; place = o.place; steps = k; rows = words / row_words }) table' verdicts'
           run_stops =
               let same = taken.refused (ap is_done refused) in
               ap₂_back same.0 same.1
               (ran (splits ∙ ap (λ (a : Answer). cond (is_done a) (runs (suc k) (stepped (formulas_of rules counts) x s) (steps_from steps (suc k) (step_count steps - suc k))) (record { answer = a; steps = k; state = x })) here_refused)
-              (ap (λ (j : ℕ). record { number = m; place = p; steps = k; rows = j / row_words }) (sym long)))
+              (ap (λ (j : ℕ). record { number = number_of o.fault; place = o.place; steps = k; rows = j / row_words }) (sym long)))
             where
               ap₂_back : table' ≡ table → verdicts' ≡ verdicts
-                  → Ran rules counts steps words₀ table₀ verdicts₀ (record { number = m; place = p; steps = k; rows = words / row_words }) table verdicts
-                  → Ran rules counts steps words₀ table₀ verdicts₀ (record { number = m; place = p; steps = k; rows = words / row_words }) table' verdicts'
+                  → Ran rules counts steps words₀ table₀ verdicts₀ (record { number = number_of o.fault; place = o.place; steps = k; rows = words / row_words }) table verdicts
+                  → Ran rules counts steps words₀ table₀ verdicts₀ (record { number = number_of o.fault; place = o.place; steps = k; rows = words / row_words }) table' verdicts'
               ap₂_back e f y =
-                  subst (λ (t : List ℕ). Ran rules counts steps words₀ table₀ verdicts₀ (record { number = m; place = p; steps = k; rows = words / row_words }) t verdicts') (sym e)
-                  (subst (λ (v : List ℕ). Ran rules counts steps words₀ table₀ verdicts₀ (record { number = m; place = p; steps = k; rows = words / row_words }) table v) (sym f) y)
+                  subst (λ (t : List ℕ). Ran rules counts steps words₀ table₀ verdicts₀ (record { number = number_of o.fault; place = o.place; steps = k; rows = words / row_words }) t verdicts') (sym e)
+                  (subst (λ (v : List ℕ). Ran rules counts steps words₀ table₀ verdicts₀ (record { number = number_of o.fault; place = o.place; steps = k; rows = words / row_words }) table v) (sym f) y)
 
         -- it is done
         module _ {c : ℕ} (done : answer ≡ Done c) where
@@ -227,7 +230,6 @@ module _ (rules counts steps : List ℕ) (words₀ : ℕ) (table₀ verdicts₀ 
 
           stands : BeforeStep rules counts (k + 1) (value answer) table' bytes' verdicts'
           stands = record {
-            set_accepted = r.standing.set_accepted;
             table_accepted = subst (λ (u : List ℕ). accepted_table u ≡ true) (sym table_now)
                 (accepted_after (formulas_of rules counts) (length table₀) (length verdicts₀) k x s here_done);
             words_inside = omega (arith, words_are, table_fits (formulas_of rules counts) (length table₀) (length verdicts₀) k x s here_done, taken.same_table, r.same_table);
@@ -255,9 +257,9 @@ module _ (rules counts pool : List ℕ) (words : ℕ) {x a : Answer} (x_is : x �
   checks = a_is ∙ ap (λ (z : Answer). and_then z (check_table pool)) x_is
 
   abbrev room_17 : Answer
-  room_17 = unless (leb (length pool) words) 17 (Done 0)
+  room_17 = unless (leb (length pool) words) ShortOutput (Done 0)
 
-  pub begin_refused : {k p : ℕ} → a ≡ Refused k p → Refused k p ≡ begin_answer rules counts pool words
+  pub begin_refused : {o : Refusal} → a ≡ Err o → Err o ≡ begin_answer rules counts pool words
   unfolding begin_answer
   begin_refused e = ap (λ (z : Answer). and_then z room_17) (sym e ∙ checks) ∙ then_assoc (check_set rules counts) (check_table pool) room_17
 
@@ -266,11 +268,11 @@ module _ (rules counts pool : List ℕ) (words : ℕ) {x a : Answer} (x_is : x �
     unfolding begin_answer
     begin_room = ap (λ (z : Answer). and_then z room_17) (sym e ∙ checks) ∙ then_assoc (check_set rules counts) (check_table pool) room_17
 
-    pub begin_short : words < length pool → Refused 17 0 ≡ begin_answer rules counts pool words
-    begin_short h = ap (λ (b : Bool). unless b 17 (Done 0)) (sym (lt-leb (length pool) words h)) ∙ begin_room
+    pub begin_short : words < length pool → Refused ShortOutput 0 ≡ begin_answer rules counts pool words
+    begin_short h = ap (λ (b : Bool). unless b ShortOutput (Done 0)) (sym (lt-leb (length pool) words h)) ∙ begin_room
 
     pub begin_fits : length pool ≤ words → Done 0 ≡ begin_answer rules counts pool words
-    begin_fits h = ap (λ (b : Bool). unless b 17 (Done 0)) (sym (le-leb (length pool) words h)) ∙ begin_room
+    begin_fits h = ap (λ (b : Bool). unless b ShortOutput (Done 0)) (sym (le-leb (length pool) words h)) ∙ begin_room
 
 module _ (rules counts pool steps table verdicts : List ℕ) {a : Answer} (a_is : a ≡ begin_answer rules counts pool (length table)) where
   abbrev outcome : Outcome
@@ -281,14 +283,14 @@ module _ (rules counts pool steps table verdicts : List ℕ) {a : Answer} (a_is 
       (trial ≡ trial_answer rules counts pool steps (length table) (length verdicts))
       × (TableLeft rules counts pool steps (length verdicts) table table' × (verdicts' ≡ verdicts_out rules counts pool steps (length table) verdicts))
 
-  pub trial_refused : {m p : ℕ} → a ≡ Refused m p → Tells (record { number = m; place = p; steps = 0; rows = 0 }) table verdicts
+  pub trial_refused : {o : Refusal} → a ≡ Err o → Tells (record { number = number_of o.fault; place = o.place; steps = 0; rows = 0 }) table verdicts
   unfolding trial_answer verdicts_out
-  trial_refused {m} {p} e = (
+  trial_refused {o} e = (
     ap returned_by (sym whole),
     (record { same_length = refl; working = empty; untouched = λ q. refl }, ap (λ (z : Outcome). appended_by z verdicts) (sym whole)),
   )
     where
-      whole : outcome ≡ record { answer = Refused m p; steps = 0; state = nothing_done }
+      whole : outcome ≡ record { answer = Err o; steps = 0; state = nothing_done }
       whole =
           ap (λ (z : Answer). cond (is_done z) (try_steps (formulas_of rules counts) (length table) (length verdicts) 0 (given pool) (steps_of steps))
           (record { answer = z; steps = 0; state = nothing_done })) (sym a_is ∙ e)
@@ -301,7 +303,7 @@ module _ (rules counts pool steps table verdicts : List ℕ) {a : Answer} (a_is 
     begun = ap is_done (sym a_is ∙ e)
 
     abbrev behind : Answer
-    behind = and_then (check_table pool) (unless (leb (length pool) (length table)) 17 (Done 0))
+    behind = and_then (check_table pool) (unless (leb (length pool) (length table)) ShortOutput (Done 0))
 
     pub set_ok : accepted_set rules counts ≡ true
     unfolding begin_answer
@@ -312,7 +314,7 @@ module _ (rules counts pool steps table verdicts : List ℕ) {a : Answer} (a_is 
     behind_set = and_then_next (check_set rules counts) behind begun
 
     pub pool_fits : length pool ≤ length table
-    pool_fits = leb-true _ _ (unless_ok (leb (length pool) (length table)) 17 (Done 0) (and_then_next (check_table pool) _ behind_set))
+    pool_fits = leb-true _ _ (unless_ok (leb (length pool) (length table)) ShortOutput (Done 0) (and_then_next (check_table pool) _ behind_set))
 
     module _ {table₁ : List ℕ} (copied : table₁ ≡ sets table 0 pool) where
       pool_there : take (length pool) table₁ ≡ pool
@@ -321,9 +323,8 @@ module _ (rules counts pool steps table verdicts : List ℕ) {a : Answer} (a_is 
       same_room : length table₁ ≡ length table
       same_room = ap length copied ∙ length-sets table 0 pool
 
-      pub trial_begun : Begun rules counts (length pool) table₁
+      pub trial_begun : Begun (length pool) table₁
       trial_begun = record {
-        set_accepted = set_ok;
         table_accepted = subst (λ (u : List ℕ). accepted_table u ≡ true) (sym pool_there) (and_then_first (check_table pool) _ behind_set);
         words_inside = omega (arith, pool_fits, same_room);
       }

@@ -1,16 +1,20 @@
 -- What the private functions that mark rows promise. A reader of the public contracts need not believe it. Assumes nothing.
-use Rattle.std.specs.Prelude.{ℕ, zero, suc, ◌<◌, ◌≤◌, ◌≡◌, Bool, true, not, cond, ◌&&◌, List, [], ◌∷◌, get_or, set, eqb}
+use Rattle.std.specs.Prelude.{ℕ, zero, suc, ◌<◌, ◌≤◌, ◌≡◌, Bool, true, false, not, Option, Some, cond, ◌&&◌, List, [], ◌∷◌, get_or, set}
 use Rattle.base.specs.Lists.{any, select, concat_map}
-use Rattle.tables.specs.Words.{row_at, rows, entry_at, entry_count}
+use Rattle.tables.specs.Words.{row_at, rows, entry_count}
 use Rattle.tables.specs.Tables.{root, same_row}
 use Rattle.tables.specs.Rules.{around}
 use Rattle.tables.specs.declared.Row.{Row}
-use Rattle.tables.specs.declared.Entry.{Entry}
-use Rattle.logic.specs.Formulas.{Connective, and, or, implies, formula_at}
+use Rattle.logic.specs.Formulas.{formula_at}
+use Rattle.tables.specs.declared.Connective.{Connective}
+use Rattle.tables.specs.declared.Connective.TheVariants.{And, Or, Implies}
+use Rattle.tables.specs.declared.Operand.{Operand}
+use Rattle.tables.specs.declared.Operand.TheVariants.{Variable, Constant}
 use Rattle.logic.specs.Verdict as meaning
 use Rattle.logic.specs.Marks.{reason, decides}
-use Rattle.engine.specs.Ready.{quantifier_of, meant, ranges_at, ranged_from, body_at}
+use Rattle.engine.specs.Ready.{meant, ranges_by, ranged_by, body_by}
 use Rattle.engine.specs.declared.bindings.Bindings.{Bindings}
+use Rattle.engine.specs.declared.ranges.Quantified.{Quantified}
 
 -- the bytes m with 1 at each row of T that is among R
 unfoldable pub mark_rows : List Row → List Row → List ℕ → List ℕ
@@ -26,18 +30,22 @@ mark_in pool R m = mark_rows (rows pool) R m
 abbrev pub root_named : ℕ → Row → Bool
 root_named n r = root r && meaning.named n r
 
--- what is marked whole in the bytes m: 0 for nothing, else 1 + a name; some roots pass its test, and marking them changes nothing
-abbrev pub MarkedWhole : List ℕ → ℕ → List ℕ → Type 0
-MarkedWhole pool w m = (n : ℕ) → w ≡ suc n → (any (root_named n) (rows pool) ≡ true) × (mark_in pool (select (root_named n) (rows pool)) m ≡ m)
+-- the name that is marked whole in the bytes m, if any: some roots pass its test, and marking them changes nothing
+abbrev pub MarkedWhole : List ℕ → Option ℕ → List ℕ → Type 0
+MarkedWhole pool w m = (n : ℕ) → w ≡ Some n → (any (root_named n) (rows pool) ≡ true) × (mark_in pool (select (root_named n) (rows pool)) m ≡ m)
 
 -- the bytes m with 1 at a place of the bindings
 abbrev pub mark_at : ℕ → List ℕ → List ℕ
 mark_at zero m = m
 mark_at (suc i) m = set m i 1
 
--- the bytes m with 1 at the places of a comparison's variables
-abbrev pub mark_compared : Bindings → Entry → List ℕ → List ℕ
-mark_compared b e m = cond (eqb e.b 0) (mark_at (get_or b.row e.c 0) (mark_at (get_or b.row e.a 0) m)) (mark_at (get_or b.row e.a 0) m)
+-- the bytes m with 1 at the places of what a comparison compares
+abbrev pub mark_operand : Bindings → Operand → List ℕ → List ℕ
+mark_operand b (Variable v) m = mark_at (get_or b.row v 0) m
+mark_operand b (Constant x) m = m
+
+abbrev pub mark_compared : Bindings → ℕ → Operand → List ℕ → List ℕ
+mark_compared b v o m = mark_operand b o (mark_at (get_or b.row v 0) m)
 
 -- the reason of an entry
 abbrev pub reason_at : List ℕ → List ℕ → Bindings → ℕ → List Row
@@ -45,24 +53,30 @@ reason_at rule pool b e = reason (formula_at rule e) (rows pool) b.depth (meant 
 
 -- the left side's verdict that goes with a connective's verdict v: where it is in its reason, or would settle it
 abbrev pub side_for : Connective → Bool → Bool
-side_for and v = v
-side_for or v = v
-side_for implies v = not v
+side_for And v = v
+side_for Or v = v
+side_for Implies v = not v
 
--- a row and its body's reason, with any bindings
-abbrev pub with_reason : List ℕ → List ℕ → Bindings → ℕ → meaning.Bindings → Row → List Row
-with_reason rule pool b e β r = r ∷ reason (formula_at rule (entry_at rule e).a) (rows pool) (suc b.depth) (meaning.bind b.depth (meaning.bound r) β)
+-- the verdict of a connective that no side decides by itself
+abbrev pub undecided : Connective → Bool
+undecided And = true
+undecided Or = false
+undecided Implies = false
 
-abbrev pub with_body : List ℕ → List ℕ → Bindings → ℕ → Row → List Row
-with_body rule pool b e r = with_reason rule pool b e (meant pool b) r
+-- a row and the reason of a quantifier's body, with any bindings
+abbrev pub with_reason : List ℕ → List ℕ → Bindings → Quantified → meaning.Bindings → Row → List Row
+with_reason rule pool b q β r = r ∷ reason (formula_at rule q.body) (rows pool) (suc b.depth) (meaning.bind b.depth (meaning.bound r) β)
+
+abbrev pub with_body : List ℕ → List ℕ → Bindings → Quantified → Row → List Row
+with_body rule pool b q r = with_reason rule pool b q (meant pool b) r
 
 -- those of each row ranged over, among k rows from row i on
-abbrev pub reason_from : List ℕ → List ℕ → Bindings → ℕ → ℕ → ℕ → List Row
-reason_from rule pool b e i k = concat_map (with_body rule pool b e) (ranged_from rule pool b e i k)
+abbrev pub reason_by : List ℕ → List ℕ → Bindings → Quantified → ℕ → ℕ → List Row
+reason_by rule pool b q i k = concat_map (with_body rule pool b q) (ranged_by pool b q i k)
 
 -- row j is ranged over and decides
-abbrev pub decides_at : List ℕ → List ℕ → Bindings → ℕ → ℕ → Bool
-decides_at rule pool b e j = ranges_at pool b (entry_at rule e) (row_at pool j) && decides (quantifier_of (entry_at rule e).kind) (body_at rule pool b e (row_at pool j))
+abbrev pub decides_by : List ℕ → List ℕ → Bindings → Quantified → ℕ → Bool
+decides_by rule pool b q j = ranges_by pool b q (row_at pool j) && decides q.by (body_by rule pool b q (row_at pool j))
 
 -- entry f with verdict w stands under entry e with verdict v: they are alike but for nots
 pub record Under (rule : List ℕ) (e : ℕ) (v : Bool) (f : ℕ) (w : Bool) : Type 0 where

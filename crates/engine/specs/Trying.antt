@@ -1,31 +1,24 @@
 -- What the private functions that try a plan require and promise. A reader of the public contracts need not believe it. Assumes nothing.
-use Rattle.std.specs.Prelude.{ℕ, ◌+◌, ◌*◌, ◌-◌, ◌<◌, ◌≤◌, ◌≡◌, Bool, true, false, ◌&&◌, List, length, get_or, take, drop, leb}
+use Rattle.std.specs.Prelude.{ℕ, ◌+◌, ◌*◌, ◌-◌, ◌<◌, ◌≤◌, ◌≡◌, Bool, true, false, cond, ◌&&◌, List, length, get_or, take, drop, leb, eqb}
 use Rattle.std.proofs.lemmas.List.Edits.{sets}
 use Rattle.tables.specs.Answers.{is_done, and_then, unless}
 use Rattle.tables.specs.Words.{rows}
 use Rattle.tables.specs.Rules.{one}
 use Rattle.tables.specs.Tables.{check_table, accepted_table}
-use Rattle.tables.specs.declared.Answer.{Answer}
-use Rattle.tables.specs.declared.Answer.TheVariants.{Done}
-use Rattle.sets.specs.Sets.{set_limit, rule_at, accepted_set}
-use Rattle.plans.specs.Plans.{step_words, step_at, steps_of, step_place, table_after}
+use Rattle.tables.specs.Answers.{Answer}
+use Rattle.tables.specs.Answers.{Done}
+use Rattle.sets.specs.Sets.{set_limit, rule_at}
+use Rattle.plans.specs.Plans.{step_words, kind_of, step_at, steps_of, step_place, table_after}
 use Rattle.plans.specs.declared.Trial.{Trial}
 use Rattle.logic.specs.Formulas.{formula, formulas_of}
 use Rattle.logic.specs.Verdict.{verdict, verdict_bytes}
 use Rattle.logic.specs.Trial.{State, given, at_step, step_answer, Outcome, try_steps, returned_by, appended_by}
+use Rattle.tables.specs.declared.Fault.TheVariants.{ShortOutput}
 
 -- ---- bytes of a set's rules
 -- the byte of rule i on a pool
 abbrev pub byte_at : List ℕ → List ℕ → List ℕ → ℕ → ℕ
 byte_at rules counts pool i = one (verdict (formula (rule_at rules counts i)) (rows pool))
-
--- those that aren't asked for are the verdicts already
-abbrev pub RestThere : List ℕ → List ℕ → List ℕ → List ℕ → List ℕ → Type 0
-RestThere rules counts pool asked bytes = (i : ℕ) → i < length counts → get_or asked i 0 ≡ 0 → get_or bytes i 0 ≡ byte_at rules counts pool i
-
--- each is asked for
-abbrev pub AllAsked : List ℕ → List ℕ → Type 0
-AllAsked counts asked = (i : ℕ) → i < length counts → get_or asked i 0 ≡ 0 → ⊥
 
 -- ---- before a step
 -- the state that the buffers hold
@@ -37,7 +30,6 @@ abbrev pub Last : List ℕ → List ℕ → ℕ → List ℕ → List ℕ → Ty
 Last rules counts k pool bytes = 0 < k → (i : ℕ) → i < length counts → get_or bytes i 0 ≡ byte_at rules counts pool i
 
 pub record BeforeStep (rules counts : List ℕ) (k words : ℕ) (table bytes verdicts : List ℕ) : Type 0 where
-  pub set_accepted : accepted_set rules counts ≡ true
   pub table_accepted : accepted_table (take words table) ≡ true
   pub words_inside : words ≤ length table
   pub bytes_inside : length counts * k ≤ length verdicts
@@ -45,9 +37,12 @@ pub record BeforeStep (rules counts : List ℕ) (k words : ℕ) (table bytes ver
   pub last : Last rules counts k (take words table) bytes
 
 -- ---- a step
+-- the table in which its row stands: the one before the step that removes it, else the one after
+abbrev pub with_row : List ℕ → List ℕ → List ℕ → List ℕ
+with_row s before after = cond (eqb (kind_of s) 3) before after
+
 -- what bringing the bytes up to the table after rests on
 pub record Changed (rules counts t next s : List ℕ) (row : ℕ) (first : Bool) (bytes : List ℕ) : Type 0 where
-  pub set_accepted : accepted_set rules counts ≡ true
   pub table_accepted : accepted_table t ≡ true
   pub next_accepted : accepted_table next ≡ true
   pub passed : step_place t s ≡ Done row
@@ -58,7 +53,7 @@ pub record Changed (rules counts t next s : List ℕ) (row : ℕ) (first : Bool)
 -- 8 to 12 of the table after, and 17
 abbrev pub room_answer : ℕ → ℕ → ℕ → ℕ → List ℕ → Answer
 room_answer n k words bytes next =
-    at_step k (and_then (check_table next) (unless (leb (length next) words && leb (n * k + n) bytes) 17 (Done k)))
+    at_step k (and_then (check_table next) (unless (leb (length next) words && leb (n * k + n) bytes) ShortOutput (Done k)))
 
 -- what a step leaves
 pub record Taken (rules counts : List ℕ) (k words : ℕ) (step : List ℕ) (table bytes verdicts : List ℕ) (answer : Answer) (table' bytes' verdicts' : List ℕ) : Type 0 where
@@ -81,8 +76,7 @@ pub record StepEnd (steps : List ℕ) (k end : ℕ) : Type 0 where
   pub words_are : take (end - step_words * k) (drop (step_words * k) steps) ≡ step_at steps k
 
 -- the working table holds an accepted table of that many words
-pub record Begun (rules counts : List ℕ) (words : ℕ) (table : List ℕ) : Type 0 where
-  pub set_accepted : accepted_set rules counts ≡ true
+pub record Begun (words : ℕ) (table : List ℕ) : Type 0 where
   pub table_accepted : accepted_table (take words table) ≡ true
   pub words_inside : words ≤ length table
 

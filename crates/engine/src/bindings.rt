@@ -1,10 +1,11 @@
-ghost use Rattle.std.specs.Prelude.{◌≡◌};
-ghost use Rattle.engine.specs.Places.{fresh, bind_at};
+ghost use Rattle.std.specs.Prelude.{◌≡◌, ◌<◌, get_or};
+ghost use Rattle.tables.specs.Rules.{nesting_limit};
+ghost use Rattle.engine.specs.Places.{fresh, bind_at, row_of_place};
 
 use tables::{NESTING_LIMIT, ROW_LIMIT};
 
-// Each variable has a row or nothing: 0 is nothing, else 1 + the row's number. The first `depth` are bound. Each frame of the evaluator
-// and of a switch's reading has several of these: 16 bits hold any place.
+// Each variable has a row or nothing: 0 is nothing, else 1 + the row's number. The first `depth` are bound.
+// Kept: places of 16 bits with their count beside them, as each frame of the evaluator has several of these in 128 KiB of stack.
 #[derive(Clone, Copy)]
 pub struct Bindings {
     pub row: [u16; Bindings::LIMIT],
@@ -40,5 +41,13 @@ impl Bindings {
         self.row[at] = place as u16;
         self.depth = (at + 1) as u16;
         self
+    }
+
+    // The row of a variable.
+    pub(crate) fn row_of(self, variable: usize) -> Option<usize>
+        requires { variable < nesting_limit }
+        ensures { result ≡ row_of_place (get_or self.row variable 0) }
+    {
+        (self.row[variable] as usize).checked_sub(1)
     }
 }

@@ -1,262 +1,209 @@
 // What is certain of an entry while some variables are unknown: their place is nothing. It settles a quantifier before its rows are
 // walked, and tells a body whose reason is the same at all of them.
-ghost use Rattle.std.specs.Prelude.{◌≡◌, ◌<◌, ◌≤◌};
-ghost use Rattle.tables.specs.Rules.{nesting_limit};
-ghost use Rattle.engine.specs.Ready.{Placed, Ready, ReadyRows};
-ghost use Rattle.engine.specs.Settling.{CertainCompared, KnownParent, Steady, Certain, CertainRows, KnownRows, Settles};
-ghost use Rattle.engine.specs.Runs.{Runs};
+ghost use Rattle.std.specs.Prelude.{◌≡◌, true, ◌<◌};
 ghost use Rattle.tables.specs.Words.{row_count};
+ghost use Rattle.tables.specs.Rules.{nesting_limit};
+ghost use Rattle.engine.specs.Ready.{Placed, NamedOther, NamedParent, Ready, ReadyRun};
+ghost use Rattle.engine.specs.Settling.{CertainCompared, KnownParent, Steady, Certain, CertainRun, Settles};
 
 use super::bindings::Bindings;
-use super::children::children_run;
 use super::comparisons::compared;
-use super::connectives::side;
-use super::ranges::{next_ranged, run_of};
-use super::words::{entry_at, place_of};
-use tables::Entry;
+use super::connectives::{settled, side, undecided};
+use super::pool::{Pool, Question, Run};
+use super::ranges::{Quantified, next_ranged, run_of};
+use tables::{Comparison, Node, Operand, Over, entry_at, node_of};
 
 // Whether a comparison has the wanted verdict whatever rows the unknown variables have.
-fn sure_compared(pool: &[u32], b: Bindings, e: Entry, want: bool) -> bool
+fn sure_compared(
+    pool: &[u32],
+    b: Bindings,
+    by: Comparison,
+    variable: usize,
+    operand: Operand,
+    want: bool,
+) -> bool
     requires placed { Placed pool.now b }
-    requires a_lt_nesting_limit { e.a < nesting_limit }
-    requires c_lt_nesting_limit { e.b ≡ 0 → e.c < nesting_limit }
-    ensures { CertainCompared pool.now b e want result }
+    requires inside { variable < nesting_limit }
+    requires named { NamedOther operand }
+    ensures { CertainCompared pool.now b by variable operand want result }
 {
-    let left = place_of(b, e.a as usize);
-    if left == 0 {
+    if b.row_of(variable).is_none() {
         return false;
     }
-    if e.b != 0 {
-        return compared(pool, b, e) == want;
+    if let Operand::Variable(other) = operand {
+        if b.row_of(other).is_none() {
+            return false;
+        }
     }
-    let right = place_of(b, e.c as usize);
-    if right == 0 {
-        return false;
-    }
-    compared(pool, b, e) == want
+    compared(pool, b, by, variable, operand) == want
 }
 
-// Whether the children of the row at a place stand within fewer than 64 rows.
-fn is_short(pool: &[u32], starts: &[u16], ends: &[u16], place: usize) -> bool
-    requires place_nonzero { (0 < place) × (place ≤ row_count pool.now) }
-    requires runs { Runs pool.now starts.now ends.now }
+// Whether the children of a row stand within fewer than 64 rows.
+fn is_short(pool: &Pool, row: usize) -> bool
+    requires { row < row_count pool.now.words.now }
 {
-    children_run(pool, starts, ends, place).rows < 64
+    pool.children_run(row).rows < 64
 }
 
 // Whether the rows that a quantifier ranges over are known, and few enough to be read ahead.
-fn reads_ahead(
-    pool: &[u32],
-    starts: &[u16],
-    ends: &[u16],
-    b: Bindings,
-    e: Entry,
-    effort: usize,
-) -> bool
-    requires placed { Placed pool.now b }
-    requires b_le_nesting_limit { e.b ≤ nesting_limit }
-    requires runs { Runs pool.now starts.now ends.now }
-    ensures { KnownParent b e result }
+fn reads_ahead(pool: &Pool, b: Bindings, over: Over, effort: usize) -> bool
+    requires placed { Placed pool.now.words.now b }
+    requires parent { NamedParent over }
+    ensures { result ≡ true → KnownParent b over }
 {
-    let under = e.b as usize;
-    if under == 0 {
-        return false;
+    match over {
+        Over::Roots => false,
+        Over::Under(variable) => match b.row_of(variable) {
+            None => false,
+            Some(parent) => (0 < effort) & is_short(pool, parent),
+        },
     }
-    let place = place_of(b, under - 1);
-    if place == 0 {
-        return false;
-    }
-    if effort == 0 {
-        return false;
-    }
-    is_short(pool, starts, ends, place)
 }
 
 // If one reason is asked: whether, with the wanted verdict, it is every row that a quantifier ranges over, and these rows are known.
-fn is_steady(b: Bindings, e: Entry, want: bool, same: bool) -> bool
-    requires { e.b ≤ nesting_limit }
-    ensures { Steady b e want same result }
+fn is_steady(b: Bindings, q: &Quantified, want: bool, same: bool) -> bool
+    requires { NamedParent q.now.over }
+    ensures { Steady b q.now want same result }
 {
     if !same {
         return true;
     }
-    if want == (e.kind == 5) {
-        let under = e.b as usize;
-        if under == 0 {
-            return true;
-        }
-        return place_of(b, under - 1) != 0;
-    }
-    false
-}
-
-// Whether an entry has the wanted verdict whatever rows the unknown variables have, and, if `same` is asked, one reason. No is always
-// allowed, so `effort` is free: a walk of known rows leaves half of it to each body, and with 1 no walk stands inside another.
-#[cycle(scan_sure)]
-fn sure(
-    rule: &[u32],
-    pool: &[u32],
-    starts: &[u16],
-    ends: &[u16],
-    b: Bindings,
-    entry: usize,
-    want: bool,
-    same: bool,
-    effort: usize,
-) -> bool
-    requires ready { Ready rule.now pool.now b entry }
-    requires runs { Runs pool.now starts.now ends.now }
-    ensures { Certain rule.now pool.now b entry want same result }
-{
-    let e = entry_at(rule, entry);
-    let a = e.a as usize;
-    if e.kind == 1 {
-        return sure(rule, pool, starts, ends, b, a, !want, same, effort);
-    }
-    if e.kind < 5 {
-        let second = e.b as usize;
-        let decides = side(e.kind, want);
-        let left = sure(rule, pool, starts, ends, b, a, decides, same, effort);
-        let both = want == (e.kind == 2);
-        if left != both {
-            return left;
-        }
-        if same & !left {
-            // The right side has the reason where the left one is sure not to decide.
-            if sure(rule, pool, starts, ends, b, a, !decides, false, effort) {
-                return sure(rule, pool, starts, ends, b, second, want, same, effort);
-            }
-            return false;
-        }
-        return sure(rule, pool, starts, ends, b, second, want, same, effort);
-    }
-    if e.kind < 7 {
-        if !is_steady(b, e, want, same) {
-            return false;
-        }
-        if reads_ahead(pool, starts, ends, b, e, effort) {
-            let r = run_of(pool, starts, ends, b, e);
-            return scan(
-                rule, pool, starts, ends, b, entry, want, same, effort, r.start, r.rows,
-            );
-        }
-        if want == (e.kind == 5) {
-            return sure(rule, pool, starts, ends, b.bind(0), a, want, same, effort);
-        }
+    if want != settled(q.by) {
         return false;
     }
-    sure_compared(pool, b, e, want)
-}
-
-// The same of a quantifier's entry over `rows` rows from `row` on, by halves. Its parent's row is known.
-#[cycle(scan_sure)]
-fn scan(
-    rule: &[u32],
-    pool: &[u32],
-    starts: &[u16],
-    ends: &[u16],
-    b: Bindings,
-    entry: usize,
-    want: bool,
-    same: bool,
-    effort: usize,
-    row: usize,
-    rows: usize,
-) -> bool
-    requires known_rows { KnownRows rule.now pool.now b entry row rows }
-    requires runs { Runs pool.now starts.now ends.now }
-    ensures { CertainRows rule.now pool.now b entry want same row rows result }
-{
-    let e = entry_at(rule, entry);
-    let all = want == (e.kind == 5);
-    let first = next_ranged(pool, b, e, row, rows);
-    let left = row + rows - first;
-    if left == 0 {
-        return all;
+    match q.over {
+        Over::Roots => true,
+        Over::Under(variable) => b.row_of(variable).is_some(),
     }
-    if 1 < left {
-        let half = left / 2;
-        let known = scan(
-            rule, pool, starts, ends, b, entry, want, same, effort, first, half,
-        );
-        if known == all {
-            return scan(
-                rule,
-                pool,
-                starts,
-                ends,
-                b,
-                entry,
-                want,
-                same,
-                effort,
-                first + half,
-                left - half,
-            );
-        }
-        return known;
-    }
-    sure(
-        rule,
-        pool,
-        starts,
-        ends,
-        b.bind(first + 1),
-        e.a as usize,
-        want,
-        same,
-        effort / 2,
-    )
 }
 
 // Whether a quantifier's rows may be many and do not hang on the innermost variable, so that settling it at once may pay.
-fn is_wide(pool: &[u32], starts: &[u16], ends: &[u16], b: Bindings, e: Entry) -> bool
-    requires placed { Placed pool.now b }
-    requires b_le_nesting_limit { e.b ≤ nesting_limit }
-    requires runs { Runs pool.now starts.now ends.now }
+fn is_wide(pool: &Pool, b: Bindings, over: Over) -> bool
+    requires placed { Placed pool.now.words.now b }
+    requires parent { NamedParent over }
 {
-    let under = e.b as usize;
-    if under == b.depth as usize {
-        return false;
+    match over {
+        Over::Roots => 0 < b.depth,
+        Over::Under(variable) => {
+            if variable + 1 == b.depth as usize {
+                return false;
+            }
+            match b.row_of(variable) {
+                None => false,
+                Some(parent) => !is_short(pool, parent),
+            }
+        }
     }
-    if under == 0 {
-        return true;
-    }
-    let place = place_of(b, under - 1);
-    if place == 0 {
-        return false;
-    }
-    !is_short(pool, starts, ends, place)
 }
 
-// Whether a quantifier is settled before its rows are walked, and, if `same` is asked, its body has one reason at all of them: the one
-// that it has while the row is unknown.
-pub(crate) fn settled_before(
-    rule: &[u32],
-    pool: &[u32],
-    starts: &[u16],
-    ends: &[u16],
-    b: Bindings,
-    entry: usize,
-    same: bool,
-) -> bool
-    requires ready_rows { ReadyRows rule.now pool.now b entry 0 0 }
-    requires runs { Runs pool.now starts.now ends.now }
-    ensures { Settles rule.now pool.now b entry same result }
-{
-    let e = entry_at(rule, entry);
-    if is_wide(pool, starts, ends, b, e) {
-        return sure(
-            rule,
-            pool,
-            starts,
-            ends,
-            b.bind(0),
-            e.a as usize,
-            e.kind == 5,
-            same,
-            1,
-        );
+impl Question<'_, '_> {
+    // Whether an entry has the wanted verdict whatever rows the unknown variables have, and, if `same` is asked, one reason. No is always
+    // allowed, so `effort` is free: a walk of known rows leaves half of it to each body, and with 1 no walk stands inside another.
+    // Kept: `want`, `same` and `effort` apart, as each call changes one of them: a struct of them would be no plainer.
+    #[cycle(scan_sure)]
+    fn sure(&self, b: Bindings, entry: usize, want: bool, same: bool, effort: usize) -> bool
+        requires { Ready self.now.rule.now self.now.pool.words.now b entry }
+        ensures { Certain self.now.rule.now self.now.pool.words.now b entry want same result }
+    {
+        match node_of(entry_at(self.rule, entry)) {
+            Node::Not { body } => self.sure(b, body, !want, same, effort),
+            Node::Connective { by, left, right } => {
+                let decides = side(by, want);
+                let first = self.sure(b, left, decides, same, effort);
+                let both = want == undecided(by);
+                if first != both {
+                    return first;
+                }
+                if same & !first {
+                    // The right side has the reason where the left one is sure not to decide.
+                    if !self.sure(b, left, !decides, false, effort) {
+                        return false;
+                    }
+                }
+                self.sure(b, right, want, same, effort)
+            }
+            Node::Quantifier {
+                by,
+                over,
+                name,
+                body,
+            } => {
+                let q = Quantified {
+                    by,
+                    over,
+                    name,
+                    body,
+                };
+                if !is_steady(b, &q, want, same) {
+                    return false;
+                }
+                if reads_ahead(&self.pool, b, over, effort) {
+                    let run = run_of(&self.pool, b, over);
+                    return self.scan(b, &q, want, same, effort, run);
+                }
+                if want != settled(by) {
+                    return false;
+                }
+                self.sure(b.bind(0), body, want, same, effort)
+            }
+            Node::Comparison {
+                by,
+                variable,
+                operand,
+            } => sure_compared(self.pool.words, b, by, variable, operand, want),
+        }
     }
-    false
+
+    // The same of a quantifier over a run of rows, by halves. Its parent's row is known.
+    // Kept: by halves, as `walk` goes: the number that falls at each call, and its laws, are the same.
+    #[cycle(scan_sure)]
+    fn scan(
+        &self,
+        b: Bindings,
+        q: &Quantified,
+        want: bool,
+        same: bool,
+        effort: usize,
+        run: Run,
+    ) -> bool
+        requires ready { ReadyRun self.now.rule.now self.now.pool.words.now b q.now run.start run.rows }
+        requires parent { KnownParent b q.now.over }
+        ensures { CertainRun self.now.rule.now self.now.pool.words.now b q.now want same run.start run.rows result }
+    {
+        let all = want == settled(q.by);
+        let Some(skipped) = next_ranged(self.pool.words, b, q, run) else {
+            return all;
+        };
+        let first = run.start + skipped;
+        let left = run.rows - skipped;
+        if left == 1 {
+            return self.sure(b.bind(first + 1), q.body, want, same, effort / 2);
+        }
+        let half = left / 2;
+        let near = Run {
+            start: first,
+            rows: half,
+        };
+        let known = self.scan(b, q, want, same, effort, near);
+        if known != all {
+            return known;
+        }
+        let far = Run {
+            start: first + half,
+            rows: left - half,
+        };
+        self.scan(b, q, want, same, effort, far)
+    }
+
+    // Whether a quantifier is settled before its rows are walked, and, if `same` is asked, its body has one reason at all of them: the one
+    // that it has while the row is unknown.
+    pub(crate) fn settled_before(&self, b: Bindings, q: &Quantified, same: bool) -> bool
+        requires { ReadyRun self.now.rule.now self.now.pool.words.now b q.now 0 0 }
+        ensures { Settles self.now.rule.now self.now.pool.words.now b q.now same result }
+    {
+        if !is_wide(&self.pool, b, q.over) {
+            return false;
+        }
+        self.sure(b.bind(0), q.body, settled(q.by), same, 1)
+    }
 }

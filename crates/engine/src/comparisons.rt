@@ -2,13 +2,11 @@
 ghost use Rattle.std.specs.Prelude.{◌≡◌, ◌<◌};
 ghost use Rattle.tables.specs.Rules.{nesting_limit};
 ghost use Rattle.tables.specs.Values.{is_less};
-ghost use Rattle.logic.specs.Formulas.{operand_of};
-ghost use Rattle.logic.specs.Verdict.{compare, value_of};
-ghost use Rattle.engine.specs.Ready.{Placed, comparison_of, meant, compared_at};
+ghost use Rattle.logic.specs.Verdict.{compare, value_at, value_of};
+ghost use Rattle.engine.specs.Ready.{Placed, meant, NamedOther, compared_by};
 
 use super::bindings::Bindings;
-use super::words::{place_of, value_at};
-use tables::{Entry, VALUE_LIMIT};
+use tables::{Comparison, Operand, VALUE_LIMIT, row_at};
 
 // The signed order.
 fn is_less(x: u32, y: u32) -> bool
@@ -20,39 +18,45 @@ fn is_less(x: u32, y: u32) -> bool
     !(VALUE_LIMIT < y) & (x < y)
 }
 
-// A comparison of kind 7, 8 or 9, for collector and switch; any other kind compares as 9 does.
-pub fn compare_values(kind: u32, x: u32, y: u32) -> bool
-    ensures { result ≡ compare (comparison_of kind) x y }
+// A comparison of two values, for collector and switch.
+pub fn compare(by: Comparison, x: u32, y: u32) -> bool
+    ensures { result ≡ compare by x y }
 {
-    if kind == 7 {
-        return x == y;
+    match by {
+        Comparison::Equal => x == y,
+        Comparison::Less => is_less(x, y),
+        Comparison::AtMost => !is_less(y, x),
     }
-    if kind == 8 {
-        return is_less(x, y);
-    }
-    !is_less(y, x)
 }
 
-// What a variable is compared with.
-fn operand(pool: &[u32], b: Bindings, e: Entry) -> u32
+// The value of a variable, 0 where it has no row.
+fn value(pool: &[u32], b: Bindings, variable: usize) -> u32
     requires placed { Placed pool.now b }
-    requires c_lt_nesting_limit { e.b ≡ 0 → e.c < nesting_limit }
-    ensures { result ≡ value_of (meant pool.now b) (operand_of e.b e.c) }
+    requires inside { variable < nesting_limit }
+    ensures { result ≡ value_at (meant pool.now b variable) }
 {
-    if e.b == 0 {
-        return value_at(pool, place_of(b, e.c as usize));
+    match b.row_of(variable) {
+        None => 0,
+        Some(row) => row_at(pool, row).value,
     }
-    e.c
 }
 
 // Whether a comparison holds.
-pub(crate) fn compared(pool: &[u32], b: Bindings, e: Entry) -> bool
+pub(crate) fn compared(
+    pool: &[u32],
+    b: Bindings,
+    by: Comparison,
+    variable: usize,
+    operand: Operand,
+) -> bool
     requires placed { Placed pool.now b }
-    requires a_lt_nesting_limit { e.a < nesting_limit }
-    requires c_lt_nesting_limit { e.b ≡ 0 → e.c < nesting_limit }
-    ensures { result ≡ compared_at pool.now b e }
+    requires inside { variable < nesting_limit }
+    requires named { NamedOther operand }
+    ensures { result ≡ compared_by pool.now b by variable operand }
 {
-    let left = value_at(pool, place_of(b, e.a as usize));
-    let right = operand(pool, b, e);
-    compare_values(e.kind, left, right)
+    let right = match operand {
+        Operand::Variable(other) => value(pool, b, other),
+        Operand::Constant(constant) => constant,
+    };
+    compare(by, value(pool, b, variable), right)
 }

@@ -9,6 +9,7 @@ mod comparisons;
 mod connectives;
 mod evaluator;
 mod parents;
+mod pool;
 mod ranges;
 mod reasons;
 mod touching;
@@ -18,6 +19,6 @@ mod words;
 
 pub use bindings::Bindings;
 pub use calls::{marks, set_verdicts, verdict};
-pub use comparisons::compare_values;
+pub use comparisons::compare;
 pub use ranges::is_named;
 pub use trying::try_plan;

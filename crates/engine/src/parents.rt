@@ -4,8 +4,8 @@ ghost use Rattle.tables.specs.Words.{row_at, row_count};
 ghost use Rattle.tables.specs.Tables.{root, is_parent, accepted_table};
 ghost use Rattle.engine.specs.Runs.{before_parent};
 
-use super::words::row_at;
-use tables::{Row, is_parent};
+use base::partition_point;
+use tables::{Row, is_parent, row_at};
 
 // Whether a row stands before the parent of row r.
 fn is_before_parent(r: Row, b: Row) -> bool
@@ -21,17 +21,7 @@ pub(crate) fn parent_of(pool: &[u32], row: usize) -> usize
     ensures { (result < row) × (is_parent (row_at pool.now row) (row_at pool.now result) ≡ true) }
 {
     let child = row_at(pool, row);
-    let mut low = 0;
-    let mut high = row - 1;
-    while low < high {
-        let middle = low + (high - low) / 2;
-        if is_before_parent(child, row_at(pool, middle)) {
-            low = middle + 1;
-        } else {
-            high = middle;
-        }
-    }
-    low
+    partition_point(0, row - 1, |i| is_before_parent(child, row_at(pool, i)))
 }
 
 // The same, where row `guess` may be it.

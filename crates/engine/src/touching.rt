@@ -1,144 +1,117 @@
 // Whether a rule has a quantifier that reaches a row. Where it has none, a change of that row leaves its verdict.
-ghost use Rattle.std.specs.Prelude.{◌≡◌, true, false, ◌<◌, ◌≤◌, length};
-ghost use Rattle.tables.specs.Words.{row_count};
-ghost use Rattle.tables.specs.Rules.{nesting_limit};
-ghost use Rattle.tables.specs.Tables.{row_limit, accepted_table};
-ghost use Rattle.sets.specs.Sets.{accepted_set};
-ghost use Rattle.engine.specs.Ready.{Placed, Ready};
-ghost use Rattle.engine.specs.Touching.{noted_on_way, WayUp, depth_of, Lands, Misses, Touched};
+ghost use Rattle.std.specs.Prelude.{◌≡◌, true, false, ◌<◌, length};
+ghost use Rattle.tables.specs.Words.{row_at, row_count, rows};
+ghost use Rattle.tables.specs.Rules.{nesting_limit, accepted_rule};
+ghost use Rattle.tables.specs.Tables.{accepted_table};
+ghost use Rattle.logic.specs.Formulas.{formula};
+ghost use Rattle.logic.specs.Parts.{reached};
+ghost use Rattle.engine.specs.Ready.{Placed, NamedParent, Ready};
+ghost use Rattle.engine.specs.Touching.{noted_on_way, WayUp, depth_of, Lands, Misses};
 
 use super::bindings::Bindings;
 use super::parents::parent_of;
 use super::ranges::is_named;
-use super::verdicts::one_if;
-use super::words::{entry_at, place_of, row_at};
-use sets::SET_LIMIT;
-use tables::{ENTRY_WORDS, Entry};
+use tables::{Node, Over, entry_at, node_of, row_at};
 
-// The way from a row up to its root: the places of the rows on it, by their depth.
+// The way from a row of a pool up to its root: the rows on it, by their depth.
 #[derive(Clone, Copy)]
-pub(crate) struct Way {
+pub(crate) struct Way<'p> {
+    pub pool: &'p [u32],
     pub row: usize,
-    pub place: [u16; Bindings::LIMIT],
+    pub rows: [Option<usize>; Bindings::LIMIT],
+    ghost up: { WayUp pool.now row rows },
 }
 
-impl Way {
-    // Notes a row on the way. Deeper than quantifiers nest it isn't noted: none reaches it.
-    fn with(mut self, row: usize, deep: usize) -> Self
-        requires { (row < row_limit) × (length self.place ≡ nesting_limit) }
-        ensures { result ≡ noted_on_way self row deep }
-    {
-        if deep < Bindings::LIMIT {
-            self.place[deep] = (row + 1) as u16;
-        }
-        self
+// Notes a row on a way. Deeper than quantifiers nest it isn't noted: none reaches it.
+fn note_on_way(rows: &mut [Option<usize>], row: usize, deep: usize)
+    requires { length rows.old ≡ nesting_limit }
+    ensures { rows.new ≡ noted_on_way rows.old row deep }
+{
+    if deep < Bindings::LIMIT {
+        rows[deep] = Some(row);
     }
 }
 
-fn way_up(pool: &[u32], row: usize) -> Way
+pub(crate) fn way_up(pool: &[u32], row: usize) -> Way<'_>
     requires { (accepted_table pool.now ≡ true) × (row < row_count pool.now) }
-    ensures { (result.row ≡ row) × WayUp pool.now row result.place }
+    ensures { (result.pool.now ≡ pool.now) × (result.row ≡ row) }
 {
-    let none = Way {
-        row,
-        place: [0; Bindings::LIMIT],
-    };
+    let mut rows = [None; Bindings::LIMIT];
     let mut i = row;
-    let mut way = none.with(i, row_at(pool, i).deep as usize);
+    note_on_way(&mut rows, row, row_at(pool, row).deep as usize);
     while row_at(pool, i).up != 0 {
         i = parent_of(pool, i);
-        way = way.with(i, row_at(pool, i).deep as usize);
+        note_on_way(&mut rows, i, row_at(pool, i).deep as usize);
     }
-    way
+    Way { pool, row, rows }
 }
 
-// The depth of the rows that a quantifier's entry reaches on a way, given the places of the variables; past all depths for none.
-fn depth_of(pool: &[u32], b: Bindings, e: Entry) -> usize
+// The depth of the rows that a quantifier reaches on a way, where its parent's variable has a row.
+fn depth_of(pool: &[u32], b: Bindings, over: Over) -> Option<usize>
     requires placed { Placed pool.now b }
-    requires b_le_nesting_limit { e.b ≤ nesting_limit }
-    ensures { result ≡ depth_of pool.now b.row e.b }
+    requires parent { NamedParent over }
+    ensures { result ≡ depth_of pool.now b.row over }
 {
-    if e.b == 0 {
-        return 0;
-    }
-    let parent = place_of(b, e.b as usize - 1);
-    if parent == 0 {
-        return Bindings::LIMIT;
-    }
-    row_at(pool, parent - 1).deep as usize + 1
-}
-
-// The place of the row on the way that it reaches; 0 for none.
-#[tactic(auto, using(crate::proofs::Ways::lands_there, crate::proofs::Ways::lands_other))]
-fn place_on_way(pool: &[u32], way: Way, b: Bindings, e: Entry) -> usize
-    requires placed { Placed pool.now b }
-    requires b_le_nesting_limit { e.b ≤ nesting_limit }
-    requires way_up { WayUp pool.now way.row way.place }
-    ensures { Lands pool.now way.row b.row e result }
-{
-    let deep = depth_of(pool, b, e);
-    if Bindings::LIMIT <= deep {
-        return 0;
-    }
-    let place = way.place[deep] as usize;
-    if place == 0 {
-        return 0;
-    }
-    if is_named(e.c, row_at(pool, place - 1)) {
-        return place;
-    }
-    0
-}
-
-// Whether some quantifier of an entry reaches the row from which the way goes up. Each variable is bound to the row on the way that its
-// quantifier reaches, or to nothing.
-fn touches(rule: &[u32], pool: &[u32], way: Way, b: Bindings, entry: usize) -> bool
-    requires ready { Ready rule.now pool.now b entry }
-    requires way_up { WayUp pool.now way.row way.place }
-    ensures { result ≡ false → Misses rule.now pool.now way.row b entry }
-{
-    let e = entry_at(rule, entry);
-    let a = e.a as usize;
-    if e.kind == 1 {
-        return touches(rule, pool, way, b, a);
-    }
-    if e.kind < 5 {
-        if touches(rule, pool, way, b, a) {
-            return true;
+    match over {
+        Over::Roots => Some(0),
+        Over::Under(variable) => {
+            let parent = b.row_of(variable)?;
+            Some(row_at(pool, parent).deep as usize + 1)
         }
-        return touches(rule, pool, way, b, e.b as usize);
     }
-    if 6 < e.kind {
-        return false;
-    }
-    let place = place_on_way(pool, way, b, e);
-    if place == way.row + 1 {
-        return true;
-    }
-    touches(rule, pool, way, b.bind(place), a)
 }
 
-// For each rule of a set 1 if some quantifier of it reaches a row, else 0.
-pub(crate) fn touched_rules(
-    rules: &[u32],
-    counts: &[u32],
-    pool: &[u32],
-    row: usize,
-) -> [u8; SET_LIMIT]
-    requires counts_value { (accepted_set rules.now counts.now ≡ true) × (accepted_table pool.now ≡ true) }
-    requires row_bound { row < row_count pool.now }
-    ensures { Touched rules.now counts.now pool.now row result (length counts.now) }
-{
-    let way = way_up(pool, row);
-    let mut touched = [0u8; SET_LIMIT];
-    let mut before = 0;
-    let mut i = 0;
-    while i < counts.len() {
-        let end = before + counts[i] as usize;
-        let rule = &rules[ENTRY_WORDS * before..ENTRY_WORDS * end];
-        touched[i] = one_if(touches(rule, pool, way, Bindings::none(), 0)) as u8;
-        before = end;
-        i += 1;
+impl Way<'_> {
+    // The row on the way that a quantifier reaches, if it reaches any.
+    fn reached(&self, b: Bindings, over: Over, name: u32) -> Option<usize>
+        requires placed { Placed self.now.pool.now b }
+        requires parent { NamedParent over }
+        ensures { Lands self.now.pool.now self.now.row b.row over name result }
+    {
+        let deep = depth_of(self.pool, b, over)?;
+        if Bindings::LIMIT <= deep {
+            return None;
+        }
+        let row = self.rows[deep]?;
+        if is_named(name, row_at(self.pool, row)) {
+            return Some(row);
+        }
+        None
     }
-    touched
+
+    // Whether some quantifier of an entry reaches the row from which the way goes up. Each variable is bound to the row on the way that
+    // its quantifier reaches, or to nothing.
+    fn touches(&self, rule: &[u32], b: Bindings, entry: usize) -> bool
+        requires { Ready rule.now self.now.pool.now b entry }
+        ensures { result ≡ false → Misses rule.now self.now.pool.now self.now.row b entry }
+    {
+        match node_of(entry_at(rule, entry)) {
+            Node::Not { body } => self.touches(rule, b, body),
+            Node::Connective { left, right, .. } => {
+                self.touches(rule, b, left) || self.touches(rule, b, right)
+            }
+            Node::Quantifier {
+                over,
+                name,
+                body,
+                ..
+            } => {
+                let reached = self.reached(b, over, name);
+                if reached == Some(self.row) {
+                    return true;
+                }
+                let place = reached.map_or(0, |row| row + 1);
+                self.touches(rule, b.bind(place), body)
+            }
+            Node::Comparison { .. } => false,
+        }
+    }
+}
+
+// Whether some quantifier of a rule reaches the row from which the way goes up.
+pub(crate) fn reaches(rule: &[u32], way: &Way) -> bool
+    requires { (accepted_rule rule.now ≡ true) × (accepted_table way.now.pool.now ≡ true) }
+    ensures { result ≡ false → reached (formula rule.now) (rows way.now.pool.now) (row_at way.now.pool.now way.now.row) ≡ false }
+{
+    way.touches(rule, Bindings::none(), 0)
 }

@@ -2,7 +2,7 @@
 use Rattle.std.specs.Prelude.{ℕ, ◌-◌, List}
 use Rattle.tables.specs.Answers.{number, place, value}
 use Rattle.tables.specs.Devices.{device_start, device_end}
-use Rattle.tables.specs.declared.Answer.{Answer}
+use Rattle.tables.specs.Answers.{Answer}
 use Rattle.entry.specs.declared.CAnswer.{CAnswer}
 use Rattle.entry.specs.declared.CSpan.{CSpan}
 

@@ -36,20 +36,22 @@ pub struct CSpan {
     pub length: usize,
 }
 
-fn c_answer(a: Answer) -> CAnswer
-    ensures { result ≡ answered a }
-{
-    match a {
-        Answer::Done(n) => CAnswer {
-            number: 0,
-            place: 0,
-            value: n,
-        },
-        Answer::Refused { number, place } => CAnswer {
-            number,
-            place,
-            value: 0,
-        },
+impl From<Answer> for CAnswer {
+    ghost from_gives = { λ answer c. c ≡ answered answer };
+
+    fn from(answer: Answer) -> CAnswer {
+        match answer {
+            Ok(value) => CAnswer {
+                number: 0,
+                place: 0,
+                value,
+            },
+            Err(refusal) => CAnswer {
+                number: refusal.fault.number(),
+                place: refusal.place,
+                value: 0,
+            },
+        }
     }
 }
 
@@ -57,7 +59,7 @@ fn c_answer(a: Answer) -> CAnswer
 pub extern "C" fn gabzeril_check_rule(rule: &[u32]) -> CAnswer
     ensures { result ≡ answered (check_rule rule.now) }
 {
-    c_answer(tables::check_rule(rule))
+    tables::check_rule(rule).into()
 }
 
 #[unsafe(no_mangle)]
@@ -65,14 +67,14 @@ pub extern "C" fn gabzeril_fill(template: &[u32], parameters: &[u32], rule: &mut
     ensures answer { result ≡ answered (fill_answer template.now parameters.now (length rule.old)) }
     ensures words { rule.new ≡ fill_out template.now parameters.now rule.old }
 {
-    c_answer(templates::fill(template, parameters, rule))
+    templates::fill(template, parameters, rule).into()
 }
 
 #[unsafe(no_mangle)]
 pub extern "C" fn gabzeril_check_table(table: &[u32]) -> CAnswer
     ensures { result ≡ answered (check_table table.now) }
 {
-    c_answer(tables::check_table(table))
+    tables::check_table(table).into()
 }
 
 #[unsafe(no_mangle)]
@@ -80,7 +82,7 @@ pub extern "C" fn gabzeril_join(pool: &mut [u32], used: usize, second: &[u32]) -
     ensures answer { result ≡ answered (join_answer pool.old used second.now) }
     ensures words { pool.new ≡ join_pool pool.old used second.now }
 {
-    c_answer(tables::join(pool, used, second))
+    tables::join(pool, used, second).into()
 }
 
 #[unsafe(no_mangle)]
@@ -99,7 +101,7 @@ pub extern "C" fn gabzeril_fold(table: &[u32], folded: &mut [u32]) -> CAnswer
     ensures answer { result ≡ answered (fold_answer table.now (length folded.old)) }
     ensures words { folded.new ≡ fold_out table.now folded.old }
 {
-    c_answer(folding::fold(table, folded))
+    folding::fold(table, folded).into()
 }
 
 #[unsafe(no_mangle)]
@@ -107,7 +109,7 @@ pub extern "C" fn gabzeril_to_columns(table: &[u32], columns: &mut [u32]) -> CAn
     ensures answer { result ≡ answered (to_columns_answer table.now (length columns.old)) }
     ensures words { columns.new ≡ to_columns_out table.now columns.old }
 {
-    c_answer(archive::to_columns(table, columns))
+    archive::to_columns(table, columns).into()
 }
 
 #[unsafe(no_mangle)]
@@ -115,7 +117,7 @@ pub extern "C" fn gabzeril_from_columns(columns: &[u32], table: &mut [u32]) -> C
     ensures answer { result ≡ answered (from_columns_answer columns.now (length table.old)) }
     ensures words { table.new ≡ from_columns_out columns.now table.old }
 {
-    c_answer(archive::from_columns(columns, table))
+    archive::from_columns(columns, table).into()
 }
 
 #[unsafe(no_mangle)]
@@ -123,7 +125,7 @@ pub extern "C" fn gabzeril_read_rule(file: &[u8], rule: &mut [u32]) -> CAnswer
     ensures answer { result ≡ answered (read_rule file.now (length rule.old)) }
     ensures words { rule.new ≡ read_rule_out file.now rule.old }
 {
-    c_answer(tables::read_rule(file, rule))
+    tables::read_rule(file, rule).into()
 }
 
 #[unsafe(no_mangle)]
@@ -131,7 +133,7 @@ pub extern "C" fn gabzeril_read_pool(file: &[u8], table: &mut [u32]) -> CAnswer
     ensures answer { result ≡ answered (read_pool file.now (length table.old)) }
     ensures words { table.new ≡ read_pool_out file.now table.old }
 {
-    c_answer(tables::read_pool(file, table))
+    tables::read_pool(file, table).into()
 }
 
 #[unsafe(no_mangle)]
@@ -139,7 +141,7 @@ pub extern "C" fn gabzeril_write_rule(rule: &[u32], file: &mut [u8]) -> CAnswer
     ensures answer { result ≡ answered (write_rule rule.now (length file.old)) }
     ensures bytes { file.new ≡ write_rule_out rule.now file.old }
 {
-    c_answer(tables::write_rule(rule, file))
+    tables::write_rule(rule, file).into()
 }
 
 #[unsafe(no_mangle)]
@@ -147,14 +149,14 @@ pub extern "C" fn gabzeril_write_pool(table: &[u32], file: &mut [u8]) -> CAnswer
     ensures answer { result ≡ answered (write_pool table.now (length file.old)) }
     ensures bytes { file.new ≡ write_pool_out table.now file.old }
 {
-    c_answer(tables::write_pool(table, file))
+    tables::write_pool(table, file).into()
 }
 
 #[unsafe(no_mangle)]
 pub extern "C" fn gabzeril_verdict(rule: &[u32], pool: &[u32]) -> CAnswer
     ensures { result ≡ answered (verdict_answer rule.now pool.now) }
 {
-    c_answer(engine::verdict(rule, pool))
+    engine::verdict(rule, pool).into()
 }
 
 #[unsafe(no_mangle)]
@@ -162,7 +164,7 @@ pub extern "C" fn gabzeril_marks(rule: &[u32], pool: &[u32], marks: &mut [u8]) -
     ensures answer { result ≡ answered (marks_answer rule.now pool.now (length marks.old)) }
     ensures bytes { marks.new ≡ marks_out rule.now pool.now marks.old }
 {
-    c_answer(engine::marks(rule, pool, marks))
+    engine::marks(rule, pool, marks).into()
 }
 
 #[unsafe(no_mangle)]
@@ -170,14 +172,14 @@ pub extern "C" fn gabzeril_part(rule: &[u32], table: &[u32], mode: u32, part: &m
     ensures answer { result ≡ answered (part_answer rule.now table.now mode (length part.old)) }
     ensures words { part.new ≡ part_out rule.now table.now mode part.old }
 {
-    c_answer(parts::part(rule, table, mode, part))
+    parts::part(rule, table, mode, part).into()
 }
 
 #[unsafe(no_mangle)]
 pub extern "C" fn gabzeril_check_set(rules: &[u32], counts: &[u32]) -> CAnswer
     ensures { result ≡ answered (check_set rules.now counts.now) }
 {
-    c_answer(sets::check_set(rules, counts))
+    sets::check_set(rules, counts).into()
 }
 
 #[unsafe(no_mangle)]
@@ -190,7 +192,7 @@ pub extern "C" fn gabzeril_set_verdicts(
     ensures answer { result ≡ answered (set_verdicts_answer rules.now counts.now pool.now (length verdicts.old)) }
     ensures bytes { verdicts.new ≡ set_verdicts_out rules.now counts.now pool.now verdicts.old }
 {
-    c_answer(engine::set_verdicts(rules, counts, pool, verdicts))
+    engine::set_verdicts(rules, counts, pool, verdicts).into()
 }
 
 #[unsafe(no_mangle)]
@@ -204,7 +206,7 @@ pub extern "C" fn gabzeril_set_part(
     ensures answer { result ≡ answered (set_part_answer rules.now counts.now table.now mode (length part.old)) }
     ensures words { part.new ≡ set_part_out rules.now counts.now table.now mode part.old }
 {
-    c_answer(parts::set_part(rules, counts, table, mode, part))
+    parts::set_part(rules, counts, table, mode, part).into()
 }
 
 #[unsafe(no_mangle)]

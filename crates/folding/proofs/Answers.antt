@@ -9,70 +9,81 @@ use lib.Seq.{sets, sets-eq, take_at}
 use lib.Dec.{leb}
 use borrow.Author.Tests.{lt-ltb, le-ltb, le-leb, lt-leb, leb-true}
 use Rattle.base.specs.Search.{first, some}
-use Rattle.tables.specs.Answers.{is_done, and_then, unless, unless_any, output}
+use Rattle.tables.specs.Answers.{is_done, value, and_then, unless, unless_any, output}
 use Rattle.tables.specs.Words.{row_words, row_count, rows, words_of}
 use Rattle.tables.specs.Tables.{check_order, other_device}
 use Rattle.tables.specs.declared.Row.{Row}
-use Rattle.tables.specs.declared.Answer.{Answer}
-use Rattle.tables.specs.declared.Answer.TheVariants.{Done, Refused}
+use Rattle.tables.specs.Answers.{Answer, Done, Refused}
+use Rattle.tables.specs.declared.refusals.Refusal.{Refusal}
+use Rattle.std.proofs.Common.{Err}
+use Rattle.tables.proofs.Ordered.{order_count}
 use Rattle.tables.proofs.Answers.{unless_ok, unless_passed, and_then_first, and_then_next, and_then_passed, none_of, unless_any_passed}
 use Rattle.tables.proofs.RowWords.{length_words}
 use Rattle.folding.specs.Folding.{folded, fold_answer, fold_out, folded_table}
 use Rattle.folding.specs.Passing.{Foldable}
+use Rattle.tables.specs.declared.Fault.TheVariants.{OtherDevice, ShortOutput}
 
 -- ---- the tests before 17
 module _ (t : List ℕ) where
   abbrev pub checked : Answer
-  checked = and_then (check_order t) (unless_any (other_device t) 14 (row_count t) (Done (row_count t)))
+  checked = and_then (check_order t) (unless_any (other_device t) OtherDevice (row_count t) (Done (row_count t)))
 
-  pub stop_before : {k p : ℕ} → check_order t ≡ Refused k p → Refused k p ≡ checked
+  pub stop_before : {r : Refusal} → check_order t ≡ Err r → Err r ≡ checked
   stop_before e = sym (rw e)
 
-  module _ {m : ℕ} (passed : check_order t ≡ Done m) {i : ℕ} (i_is : i ≡ first (other_device t) (row_count t)) where
-    pub stop_14 : i < row_count t → Refused 14 i ≡ checked
-    stop_14 h = sym (rw (passed, ← i_is, lt-ltb i (row_count t) h))
+  module _ {n : ℕ} (passed : check_order t ≡ Done n) {i : ℕ} (i_is : i ≡ first (other_device t) (row_count t)) where
+    count : n ≡ row_count t
+    count = order_count t (ap is_done passed) n passed
 
-    pub foldable_passed : row_count t ≤ i → Done (row_count t) ≡ checked
-    foldable_passed h = sym (rw (passed, ← i_is, le-ltb i (row_count t) h))
+    pub stop_14 : i < n → Refused OtherDevice i ≡ checked
+    stop_14 h = sym (rw (passed, ← i_is, lt-ltb i (row_count t) (omega (arith, count))))
+
+    pub foldable_passed : n ≤ i → Done n ≡ checked
+    foldable_passed h = ap Done count ∙ sym (rw (passed, ← i_is, le-ltb i (row_count t) (omega (arith, count))))
 
   pub foldable : is_done checked ≡ true → Foldable t
   foldable e = record {
     ordered = and_then_first (check_order t) _ e;
-    one_device = none_of (other_device t) 14 (row_count t) (Done (row_count t)) (and_then_next (check_order t) _ e);
+    one_device = none_of (other_device t) OtherDevice (row_count t) (Done (row_count t)) (and_then_next (check_order t) _ e);
   }
+
+  pub foldable_count : {n : ℕ} → checked ≡ Done n → n ≡ row_count t
+  foldable_count e =
+      let ok = foldable (ap is_done e) in
+      ap value (sym e ∙ and_then_passed (check_order t) _ ok.ordered ∙ unless_any_passed (other_device t) OtherDevice (row_count t) _ ok.one_device)
 
   -- ---- and 17
   abbrev left : List Row
   left = folded (rows t)
 
   abbrev fitted : ℕ → Answer
-  fitted room = unless (leb (length (words_of left)) room) 17 (Done (length left))
+  fitted room = unless (leb (length (words_of left)) room) ShortOutput (Done (length left))
 
   then_room : (room : ℕ) → fold_answer t room ≡ and_then checked (fitted room)
   unfolding fold_answer
   then_room room = go (check_order t) (some (other_device t) (row_count t))
     where
       go : (a : Answer) (b : Bool)
-          → and_then a (cond b (Refused 14 (first (other_device t) (row_count t))) (fitted room))
-          ≡ and_then (and_then a (cond b (Refused 14 (first (other_device t) (row_count t))) (Done (row_count t)))) (fitted room)
+          → and_then a (cond b (Refused OtherDevice (first (other_device t) (row_count t))) (fitted room))
+          ≡ and_then (and_then a (cond b (Refused OtherDevice (first (other_device t) (row_count t))) (Done (row_count t)))) (fitted room)
       go (Done m) true = refl
       go (Done m) false = refl
-      go (Refused k p) b = refl
+      go (Err r) b = refl
 
   module _ (out : List ℕ) where
     -- a refused call leaves the output as it came
-    as_it_came : {k p : ℕ} → fold_answer t (length out) ≡ Refused k p → (Refused k p ≡ fold_answer t (length out)) × (out ≡ fold_out t out)
+    as_it_came : {r : Refusal} → fold_answer t (length out) ≡ Err r → (Err r ≡ fold_answer t (length out)) × (out ≡ fold_out t out)
     unfolding fold_out
     as_it_came e = (sym e, ap (λ (a : Answer). output a (words_of left) out) (sym e))
 
-    pub refused : {k p : ℕ} → checked ≡ Refused k p → (Refused k p ≡ fold_answer t (length out)) × (out ≡ fold_out t out)
+    pub refused : {r : Refusal} → checked ≡ Err r → (Err r ≡ fold_answer t (length out)) × (out ≡ fold_out t out)
     refused e = as_it_came (then_room (length out) ∙ rw e)
 
     module _ {m : ℕ} (passed : checked ≡ Done m) {n : ℕ} (n_is : n ≡ length left) where
       words_are : length (words_of left) ≡ row_words * n
       words_are = length_words left ∙ ap (◌*◌ row_words) (sym n_is)
 
-      pub stop_17 : length out < row_words * n → (Refused 17 0 ≡ fold_answer t (length out)) × (out ≡ fold_out t out)
+      pub stop_17 : length out < row_words * n → (Refused ShortOutput 0 ≡ fold_answer t (length out)) × (out ≡ fold_out t out)
       stop_17 h =
           let l : length out < length (words_of left) = omega (arith, words_are) in
           as_it_came (then_room (length out) ∙ rw (passed, lt-leb (length (words_of left)) (length out) l))
@@ -96,11 +107,11 @@ module _ (t : List ℕ) where
 
   -- ---- accepted: exactly if the tests let the table pass and the output is long enough
   checked_done : Foldable t → is_done checked ≡ true
-  checked_done ok = ap is_done (and_then_passed (check_order t) _ ok.ordered ∙ unless_any_passed (other_device t) 14 (row_count t) _ ok.one_device)
+  checked_done ok = ap is_done (and_then_passed (check_order t) _ ok.ordered ∙ unless_any_passed (other_device t) OtherDevice (row_count t) _ ok.one_device)
 
   pub call_done : Foldable t → (room : ℕ) → length (words_of left) ≤ room → fold_answer t room ≡ Done (length left)
   call_done ok room h = then_room room ∙ and_then_passed checked (fitted room) (checked_done ok)
-      ∙ unless_passed (leb (length (words_of left)) room) 17 (Done (length left)) (le-leb (length (words_of left)) room h)
+      ∙ unless_passed (leb (length (words_of left)) room) ShortOutput (Done (length left)) (le-leb (length (words_of left)) room h)
 
   module _ (room : ℕ) (ok : is_done (fold_answer t room) ≡ true) where
     both : is_done (and_then checked (fitted room)) ≡ true
@@ -111,7 +122,7 @@ module _ (t : List ℕ) where
 
     pub done_fits : length (words_of left) ≤ room
     done_fits = leb-true (length (words_of left)) room
-        (unless_ok (leb (length (words_of left)) room) 17 (Done (length left)) (and_then_next checked (fitted room) both))
+        (unless_ok (leb (length (words_of left)) room) ShortOutput (Done (length left)) (and_then_next checked (fitted room) both))
 
   -- the rows that it has written
   pub table_is : (out : List ℕ) → is_done (fold_answer t (length out)) ≡ true → folded_table t out ≡ words_of left

@@ -13,7 +13,7 @@ use Rattle.tables.specs.Answers.{is_done, value}
 use Rattle.tables.specs.Words.{whole, row_words, row_at, row_count, rows, words_of}
 use Rattle.tables.specs.Tables.{row_limit, table_length, accepted_table}
 use Rattle.tables.specs.declared.Row.{Row}
-use Rattle.tables.specs.declared.Answer.TheVariants.{Done}
+use Rattle.tables.specs.Answers.{Done}
 use Rattle.tables.proofs.Accepted.{ordered, length_ok}
 use Rattle.tables.proofs.Ordered.{few_rows}
 use Rattle.tables.proofs.Proper.{Proper, rows_proper, proper_accepted}

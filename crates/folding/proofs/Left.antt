@@ -11,7 +11,7 @@ use native.Mathlib.Omega.{arith}
 use lib.ListN.{length, get_or, set, length-append}
 use lib.Seq.{sets, length-sets}
 use lib.Dec.{eqb}
-use borrow.Author.Tests.{eqb-true, eq-eqb, ne_eqb}
+use borrow.Author.Tests.{eqb-true, eq-eqb}
 use Rattle.base.specs.Lists.{◌∈◌, when}
 use Rattle.base.specs.Search.{sum_below}
 use Rattle.base.proofs.Copies.{sets_append}
@@ -22,14 +22,13 @@ use Rattle.tables.specs.Rules.{one}
 use Rattle.tables.specs.declared.Row.{Row}
 use Rattle.tables.proofs.RowWords.{length_words}
 use Rattle.folding.specs.Folding.{with_up}
-use Rattle.folding.specs.Passing.{moved_at, left_at, left_of, is_left}
+use Rattle.folding.specs.Passing.{intos, moved_at, left_at, left_of, is_left}
+use Rattle.folding.specs.declared.passing.Move.{Move}
+use Rattle.folding.proofs.Passes.{into_at}
 
 -- ---- one row
-pub left_one : (into : List ℕ) (j : ℕ) → get_or into j 0 ≡ j → 1 ≡ is_left into j
-left_one into j e = sym (ap one (eq-eqb _ j e))
-
-pub left_zero : (into : List ℕ) (j : ℕ) → (get_or into j 0 ≡ j → ⊥) → 0 ≡ is_left into j
-left_zero into j h = sym (ap one (ne_eqb _ j h))
+pub left_if : (moves : List Move) (i : ℕ) {b c : Bool} → b ≡ eqb (get_or moves i (record { into = 0; up = 0 })).into i → b ≡ c → one c ≡ is_left (intos moves) i
+left_if moves i b_is e = ap one (sym e ∙ b_is) ∙ ap (λ (k : ℕ). one (eqb k i)) (into_at moves i)
 
 module _ (t into ups : List ℕ) where
   -- ---- which

@@ -1,11 +1,11 @@
 -- The pass over a table: what each turn keeps. Assumes nothing.
-use Prim.Native.Nat.{ℕ, zero, suc, ◌+◌, ◌-◌, ◌≤◌, ◌<◌}
+use Prim.Native.Nat.{ℕ, zero, suc, ◌+◌, ◌≤◌, ◌<◌}
 use mathlib.Core.Path.{◌≡◌, refl, sym, ap, ap₂, subst, ◌∙◌}
 use mathlib.Core.Bool.{Bool, true, false, cond, true≢false}
 use mathlib.Core.List.{List}
 use native.Mathlib.Decide.{dec_lt}
 use native.Mathlib.Omega.{arith}
-use lib.ListN.{length, get_or, set, length-set, replicate}
+use lib.ListN.{length, get_or, set, length-set, replicate, get_or-map}
 use lib.Seq.{get_or-set_same, get_or-set_other}
 use lib.Dec.{eqb}
 use borrow.Author.Tests.{eqb-true, eq-eqb}
@@ -18,12 +18,16 @@ use Rattle.tables.specs.Tables.{row_limit, root, is_parent, is_twin}
 use Rattle.tables.specs.Links.{last_of, Linked, Heads}
 use Rattle.tables.specs.declared.Row.{Row}
 use Rattle.tables.proofs.Linked.{linked_more, heads_more, linked_none, heads_none, last_is}
-use Rattle.tables.proofs.Linked as links
 use Rattle.tables.proofs.Ordered.{one_parent, parent_no_root}
 use Rattle.folding.specs.Folding.{with_up}
-use Rattle.folding.specs.Passing.{Foldable, UpIs, moved_at, Passing, Backward, IsMoved, hash_at, Found}
+use Rattle.folding.specs.Passing.{Foldable, intos, UpIs, moved_at, Passing, Backward, IsMoved, hash_at}
+use Rattle.folding.specs.declared.passing.Move.{Move}
 use Rattle.folding.proofs.Images.{Equal, twin_equal}
 use Rattle.folding.proofs.ParentSearch.{in_place, same_device}
+
+-- ---- what the pass has written of a row
+pub into_at : (moves : List Move) (j : ℕ) → (get_or moves j (record { into = 0; up = 0 })).into ≡ get_or (intos moves) j 0
+into_at moves j = sym (get_or-map (λ (m : Move). m.into) moves j (record { into = 0; up = 0 }))
 
 -- ---- the first number at which a test holds
 pub first_is : (p : ℕ → Bool) (n m : ℕ) → m < n → p m ≡ true → ((j : ℕ) → j < m → p j ≡ false) → first p n ≡ m
@@ -81,14 +85,6 @@ module _ (t into : List ℕ) (ok : Foldable t) (i : ℕ) (h : i < row_count t) w
     };
   }
 
--- ---- the walk along a chain
-module _ {hash : ℕ → ℕ} {p : ℕ → Bool} {h i k : ℕ} (s : links.Seeks hash p h i k) where
-  pub found_hit : 0 < k → p (k - 1) ≡ true → Found p i k
-  found_hit z e = record { within = s.within; hit = λ _. e; none = λ y. absurd (omega arith) }
-
-  pub found_none : k ≤ 0 → Found p i 0
-  found_none z = record { within = omega arith; hit = λ y. absurd (omega arith); none = λ _ j l. s.passed j (omega arith) l }
-
 -- ---- links by hashes that agree so far
 last_same : (p q : ℕ → Bool) (n : ℕ) → ((m : ℕ) → m < n → p m ≡ q m) → last_of p n ≡ last_of q n
 unfolding last_of
@@ -134,8 +130,32 @@ backward {t} {into} {ups} s = record {
 
 module _ {t : List ℕ} (ok : Foldable t) (few : row_count t ≤ row_limit) {into ups head next : List ℕ} {i : ℕ}
     (s : Going t (row_count t) into ups head next i) (l : i < row_count t)
-    {r : Row} (moved : IsMoved t into i r) {k : ℕ} (found : Found (λ j. is_twin r (moved_at t ups j)) i k)
-    {q : ℕ} (own : k ≡ 0 → q ≡ i) (its : 0 < k → q ≡ get_or into (k - 1) 0) where
+    {r : Row} (moved : IsMoved t into i r) where
+  -- ---- the row that row i goes into
+  -- that of an equal sibling
+  pub through : (k : ℕ) → k < i → is_twin r (moved_at t ups k) ≡ true → get_or into k 0 ≡ first (λ j. is_twin r (moved_at t ups j)) i
+  through k h e =
+      let b = moved_at t ups k in
+      let eq : Equal r b = twin_equal r b e in
+      let d : r.device ≡ b.device = ap (λ (x : Row). x.device) moved.row ∙ same_device t ok i k l (omega arith) in
+      let same : (j : ℕ) → is_twin b (moved_at t ups j) ≡ is_twin r (moved_at t ups j) = λ j. twins_of r b (moved_at t ups j) d eq in
+      let p : ℕ → Bool = λ j. is_twin b (moved_at t ups j) in
+      let f : first p k ≤ k = first_le p k in
+      s.passing.into_are k h
+      ∙ sym (first_is (λ j. is_twin r (moved_at t ups j)) i (first p k) (omega arith)
+      (elim (dec_lt (first p k) k) [
+        | yes y ↦ sym (same (first p k)) ∙ at_first p k y
+        | no n ↦ let g : first p k ≡ k = omega arith in ap (λ (m : ℕ). is_twin r (moved_at t ups m)) g ∙ e
+      ])
+      (λ j m. sym (same j) ∙ none_before p k j m))
+
+  -- its own
+  pub alone : ((j : ℕ) → j < i → is_twin r (moved_at t ups j) ≡ false) → i ≡ first (λ j. is_twin r (moved_at t ups j)) i
+  alone h = sym (first_none _ i h)
+
+module _ {t : List ℕ} (ok : Foldable t) (few : row_count t ≤ row_limit) {into ups head next : List ℕ} {i : ℕ}
+    (s : Going t (row_count t) into ups head next i) (l : i < row_count t)
+    {r : Row} (moved : IsMoved t into i r) {q : ℕ} (goes : q ≡ first (λ j. is_twin r (moved_at t ups j)) i) where
   old_up : (m : ℕ) → m < i → get_or (set ups i r.up) m 0 ≡ get_or ups m 0
   old_up m h = get_or-set_other ups i m r.up 0 (λ e. omega arith)
 
@@ -150,32 +170,6 @@ module _ {t : List ℕ} (ok : Foldable t) (few : row_count t ≤ row_limit) {int
 
   new_row : moved_at t (set ups i r.up) i ≡ r
   new_row = ap (λ (u : ℕ). with_up u (row_at t i)) new_up ∙ sym moved.row
-
-  -- ---- the row that row i goes into
-  -- with an equal sibling: the one that goes with it
-  through : 0 < k → q ≡ first (λ j. is_twin r (moved_at t ups j)) i
-  through z =
-      let e = found.hit z in
-      let w : k ≤ i = found.within in
-      let b = moved_at t ups (k - 1) in
-      let eq : Equal r b = twin_equal r b e in
-      let d : r.device ≡ b.device = ap (λ (x : Row). x.device) moved.row ∙ same_device t ok i (k - 1) l (omega arith) in
-      let same : (j : ℕ) → is_twin b (moved_at t ups j) ≡ is_twin r (moved_at t ups j) = λ j. twins_of r b (moved_at t ups j) d eq in
-      let p : ℕ → Bool = λ j. is_twin b (moved_at t ups j) in
-      let f : first p (k - 1) ≤ k - 1 = first_le p (k - 1) in
-      its z ∙ s.passing.into_are (k - 1) (omega arith)
-      ∙ sym (first_is (λ j. is_twin r (moved_at t ups j)) i (first p (k - 1)) (omega arith)
-      (elim (dec_lt (first p (k - 1)) (k - 1)) [
-        | yes y ↦ sym (same (first p (k - 1))) ∙ at_first p (k - 1) y
-        | no n ↦ let g : first p (k - 1) ≡ k - 1 = omega arith in ap (λ (m : ℕ). is_twin r (moved_at t ups m)) g ∙ e
-      ])
-      (λ j h. sym (same j) ∙ none_before p (k - 1) j h))
-
-  goes : q ≡ first (λ j. is_twin r (moved_at t ups j)) i
-  goes = elim (dec_lt 0 k) [
-    | yes y ↦ through y
-    | no n ↦ let z : k ≡ 0 = omega arith in own z ∙ sym (first_none _ i (found.none z))
-  ]
 
   -- ---- one row more
   up_more : (j u : ℕ) → j < i + 1 → UpIs t into j u → UpIs t (set into i q) j u

@@ -5,8 +5,9 @@ use Rattle.tables.specs.Answers.{is_done, value, and_then, unless, unless_any, o
 use Rattle.tables.specs.Words.{row_words, row_count, rows, words_of}
 use Rattle.tables.specs.Tables.{is_parent, same_row, is_above, is_twin, accepted_table, check_order, other_device}
 use Rattle.tables.specs.declared.Row.{Row}
-use Rattle.tables.specs.declared.Answer.{Answer}
-use Rattle.tables.specs.declared.Answer.TheVariants.{Done}
+use Rattle.tables.specs.Answers.{Answer}
+use Rattle.tables.specs.Answers.{Done}
+use Rattle.tables.specs.declared.Fault.TheVariants.{OtherDevice, ShortOutput}
 
 -- ---- one folding
 -- equal siblings, of which one stands before the other
@@ -56,8 +57,8 @@ unfoldable pub fold_answer : List ℕ → ℕ → Answer
 fold_answer table room =
     let left = folded (rows table) in
     and_then (check_order table)
-    (unless_any (other_device table) 14 (row_count table)
-    (unless (leb (length (words_of left)) room) 17
+    (unless_any (other_device table) OtherDevice (row_count table)
+    (unless (leb (length (words_of left)) room) ShortOutput
     (Done (length left))))
 
 -- the words of the rows left and what stood past them, or as it was

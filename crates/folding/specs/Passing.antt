@@ -1,5 +1,5 @@
 -- Private contracts of the pass over a table that folds it. Assumes nothing.
-use Rattle.std.specs.Prelude.{ℕ, zero, suc, ◌-◌, ◌<◌, ◌≤◌, ◌≡◌, Bool, true, false, List, [], ◌∷◌, ◌++◌, length, get_or, eqb}
+use Rattle.std.specs.Prelude.{ℕ, zero, suc, ◌<◌, ◌≤◌, ◌≡◌, Bool, true, false, List, [], ◌∷◌, ◌++◌, length, map, get_or, eqb, Option, MatchOption}
 use Rattle.base.specs.Lists.{when}
 use Rattle.base.specs.Search.{first}
 use Rattle.tables.specs.Words.{row_at, row_count}
@@ -8,6 +8,7 @@ use Rattle.tables.specs.Links.{twin_hash}
 use Rattle.tables.specs.Tables.{row_limit, root, is_parent, is_twin, ordered_table, other_device}
 use Rattle.tables.specs.declared.Row.{Row}
 use Rattle.folding.specs.Folding.{with_up}
+use Rattle.folding.specs.declared.passing.Move.{Move}
 
 -- a table that the tests let pass
 pub record Foldable (t : List ℕ) : Type 0 where
@@ -23,6 +24,13 @@ pub record UpIs (t into : List ℕ) (i up : ℕ) : Type 0 where
 -- row j with its new up
 abbrev pub moved_at : List ℕ → List ℕ → ℕ → Row
 moved_at t ups j = with_up (get_or ups j 0) (row_at t j)
+
+-- what the pass has written of each row
+abbrev pub intos : List Move → List ℕ
+intos moves = map (λ (m : Move). m.into) moves
+
+abbrev pub ups : List Move → List ℕ
+ups moves = map (λ (m : Move). m.up) moves
 
 -- i rows are passed: each goes into the first of them that is then its equal sibling, or into itself
 pub record Passing (t into ups : List ℕ) (i : ℕ) : Type 0 where
@@ -45,11 +53,9 @@ pub record IsMoved (t into : List ℕ) (i : ℕ) (r : Row) : Type 0 where
 abbrev pub hash_at : List ℕ → List ℕ → ℕ → ℕ
 hash_at t ups j = twin_hash (moved_at t ups j)
 
--- k is one more than a number below i at which p holds, or 0 if it holds at none
-pub record Found (p : ℕ → Bool) (i k : ℕ) : Type 0 where
-  pub within : k ≤ i
-  pub hit : 0 < k → p (k - 1) ≡ true
-  pub none : k ≡ 0 → (j : ℕ) → j < i → p j ≡ false
+-- k is a number below i at which p holds, or none where it holds at none
+abbrev pub Found : (ℕ → Bool) → ℕ → Option ℕ → Type 0
+Found p i k = MatchOption k ((j : ℕ) → j < i → p j ≡ false) (λ j. (j < i) × (p j ≡ true))
 
 -- ---- the rows left
 -- a row that goes into itself is left, with its new up

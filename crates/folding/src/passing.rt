@@ -1,27 +1,40 @@
 // The pass over a table's rows: the row that each goes into, and the up that it then has. A row's parent stands before it, so that its
 // new up is known; it then goes into the first row with its new up, name and value.
-ghost use Rattle.std.specs.Prelude.{◌≡◌, true, false, ℕ, ◌<◌, ◌≤◌, ◌-◌, length, get_or, eqb};
+ghost use Rattle.std.specs.Prelude.{◌≡◌, true, false, ℕ, ◌<◌, ◌≤◌, ◌^◌, length, eqb};
 ghost use Rattle.tables.specs.Words.{row_at, row_count};
 ghost use Rattle.tables.specs.Links.{twin_hash};
 ghost use Rattle.tables.specs.Tables.{row_limit, root, is_parent, is_twin};
 ghost use Rattle.tables.specs.Links.{last_of, Linked};
-ghost use Rattle.folding.specs.Passing.{Foldable, moved_at, hash_at, Passing, Backward, IsMoved, Found};
+ghost use Rattle.folding.specs.Passing.{Foldable, intos, ups, moved_at, hash_at, Passing, Backward, IsMoved, Found};
 
-use tables::{
-    AT, DEEP, DEVICE, HASHES, NAME, ROW_LIMIT, ROW_WORDS, Row, UP, VALUE, is_twin, twin_hash,
-};
+use base::partition_point;
+use tables::{HASHES, ROW_LIMIT, ROW_WORDS, Row, VALUE, is_twin, row_at, twin_hash};
 
-pub(crate) fn row_at(table: &[u32], i: usize) -> Row
-    requires { i < row_count table.now }
-    ensures { result ≡ row_at table.now i }
+// Where a row goes: the row that it goes into, itself if it is left, and the up that it then has. 16 bits each, where they are enough:
+// clearing is most of a small table's cost.
+#[derive(Clone, Copy)]
+pub(crate) struct Move {
+    pub(crate) into: u16,
+    pub(crate) up: u16,
+}
+
+impl Move {
+    // Whether row i is left.
+    pub(crate) fn stays(self, i: usize) -> bool
+        ensures { result ≡ eqb self.into i }
+    {
+        usize::from(self.into) == i
+    }
+}
+
+// Row i with its new up.
+pub(crate) fn moved_at(table: &[u32], moves: &[Move], i: usize) -> Row
+    requires { (i < row_count table.now) × (i < length moves.now) }
+    ensures { result ≡ moved_at table.now (ups moves.now) i }
 {
     Row {
-        device: table[ROW_WORDS * i + DEVICE],
-        at: table[ROW_WORDS * i + AT],
-        up: table[ROW_WORDS * i + UP],
-        deep: table[ROW_WORDS * i + DEEP],
-        name: table[ROW_WORDS * i + NAME],
-        value: table[ROW_WORDS * i + VALUE],
+        up: u32::from(moves[i].up),
+        ..row_at(table, i)
     }
 }
 
@@ -31,98 +44,84 @@ fn parent_of(table: &[u32], row: usize) -> usize
     requires row_bound { (row < row_count table.now) × (root (row_at table.now row) ≡ false) }
     ensures { (result < row) × (is_parent (row_at table.now row) (row_at table.now result) ≡ true) }
 {
-    let up = table[ROW_WORDS * row + UP];
-    let mut low = 0;
-    let mut high = row - 1;
-    while low < high {
-        let middle = low + (high - low) / 2;
-        if table[ROW_WORDS * middle + AT] < up {
-            low = middle + 1;
-        } else {
-            high = middle;
-        }
-    }
-    low
+    let up = row_at(table, row).up;
+    partition_point(0, row - 1, |i| row_at(table, i).at < up)
 }
 
-// Row i with its new up: the at of the row that its parent goes into.
-fn moved_row(table: &[u32], into: &[u16], i: usize) -> Row
+// Row i with the up that it gets: the at of the row that its parent goes into.
+fn moved_row(table: &[u32], moves: &[Move], i: usize) -> Row
     requires foldable { Foldable table.now }
-    requires i_bound { (i < row_count table.now) × Backward into.now i }
-    ensures { IsMoved table.now into.now i result }
+    requires i_bound { (i < row_count table.now) × Backward (intos moves.now) i }
+    ensures moved { IsMoved table.now (intos moves.now) i result }
+    ensures up_fits { result.up < 2 ^ 16 }
 {
-    let mut r = row_at(table, i);
-    if r.up == 0 {
-        return r;
+    let row = row_at(table, i);
+    if row.up == 0 {
+        return row;
     }
     let parent = parent_of(table, i);
-    let place = into[parent] as usize;
-    r.up = table[ROW_WORDS * place + AT];
-    r
+    let place = usize::from(moves[parent].into);
+    Row {
+        up: row_at(table, place).at,
+        ..row
+    }
 }
 
 // Whether r is an equal sibling of row j with its new up. The value is tested first: in a long chain it tells most rows apart.
-fn is_equal(table: &[u32], ups: &[u32], j: usize, r: Row) -> bool
-    requires { (j < row_count table.now) × (j < length ups.now) }
-    ensures { result ≡ is_twin r (moved_at table.now ups.now j) }
+fn is_equal(table: &[u32], moves: &[Move], j: usize, r: Row) -> bool
+    requires { (j < row_count table.now) × (j < length moves.now) }
+    ensures { result ≡ is_twin r (moved_at table.now (ups moves.now) j) }
 {
-    if table[ROW_WORDS * j + VALUE] != r.value {
-        return false;
-    }
-    let mut b = row_at(table, j);
-    b.up = ups[j];
-    is_twin(r, b)
+    table[ROW_WORDS * j + VALUE] == r.value && is_twin(r, moved_at(table, moves, j))
 }
 
-// One more than the last of the first i rows that is an equal sibling of r, or 0; k is one more than the last of them with its hash, and
-// the chain goes on from there.
-fn last_equal(table: &[u32], ups: &[u32], next: &[u16], i: usize, k: usize, r: Row) -> usize
-    requires i_bound { (i ≤ row_count table.now) × (length ups.now ≡ row_limit) }
-    requires linked { Linked (hash_at table.now ups.now) next.now i }
-    requires k_value { k ≡ last_of (λ (m : ℕ). eqb (hash_at table.now ups.now m) (twin_hash r)) i }
-    ensures { Found (λ (j : ℕ). is_twin r (moved_at table.now ups.now j)) i result }
+// The last of the first i rows that is an equal sibling of r; k is one more than the last of them with its hash, and the chain goes on
+// from there.
+fn last_equal(
+    table: &[u32],
+    moves: &[Move],
+    next: &[u16],
+    i: usize,
+    k: usize,
+    r: Row,
+) -> Option<usize>
+    requires i_bound { (i ≤ row_count table.now) × (length moves.now ≡ row_limit) }
+    requires linked { Linked (hash_at table.now (ups moves.now)) next.now i }
+    requires k_value { k ≡ last_of (λ (m : ℕ). eqb (hash_at table.now (ups moves.now) m) (twin_hash r)) i }
+    ensures { Found (λ (j : ℕ). is_twin r (moved_at table.now (ups moves.now) j)) i result }
 {
     let mut at = k;
     while 0 < at {
         let j = at - 1;
-        if is_equal(table, ups, j, r) {
-            return at;
+        if is_equal(table, moves, j, r) {
+            return Some(j);
         }
-        at = next[j] as usize;
+        at = usize::from(next[j]);
     }
-    0
-}
-
-// The row that row i goes into: that of its equal sibling k - 1, or itself if k is 0.
-fn place_into(into: &[u16], k: usize, i: usize) -> u16
-    requires { (k ≤ i) × (i < row_limit) × (length into.now ≡ row_limit) }
-    ensures { (k ≡ 0 → result ≡ i) × (0 < k → result ≡ get_or into.now (k - 1) 0) }
-{
-    if k == 0 {
-        return i as u16;
-    }
-    into[k - 1]
+    None
 }
 
 // Every row is linked, also one that goes: the last equal sibling is then the first in the chain, however many there are.
-pub(crate) fn pass(table: &[u32], into: &mut [u16], ups: &mut [u32])
+pub(crate) fn pass(table: &[u32], moves: &mut [Move])
     requires foldable { Foldable table.now }
-    requires into_len { (length into.old ≡ row_limit) × (length ups.old ≡ row_limit) }
-    ensures { Passing table.now into.new ups.new (row_count table.now) }
+    requires moves_len { length moves.old ≡ row_limit }
+    ensures { Passing table.now (intos moves.new) (ups moves.new) (row_count table.now) }
 {
     let mut head = [0u16; HASHES];
     let mut next = [0u16; ROW_LIMIT];
-    let n = table.len() / ROW_WORDS;
-    let mut i = 0;
-    while i < n {
-        let r = moved_row(table, into, i);
-        let h = twin_hash(r);
-        let last = head[h];
-        let k = last_equal(table, ups, &next, i, last as usize, r);
-        into[i] = place_into(into, k, i);
-        ups[i] = r.up;
+    for i in 0..table.len() / ROW_WORDS {
+        let row = moved_row(table, moves, i);
+        let hash = twin_hash(row);
+        let last = head[hash];
+        let into = match last_equal(table, moves, &next, i, usize::from(last), row) {
+            Some(equal) => moves[equal].into,
+            None => i as u16,
+        };
+        moves[i] = Move {
+            into,
+            up: row.up as u16,
+        };
         next[i] = last;
-        head[h] = (i + 1) as u16;
-        i += 1;
+        head[hash] = (i + 1) as u16;
     }
 }

@@ -17,8 +17,8 @@ use Rattle.tables.specs.Words.{row_words, row_at, row_count, rows_from, rows}
 use Rattle.tables.specs.Rules.{one, check_rule, accepted_rule}
 use Rattle.tables.specs.Tables.{same_row, check_table, accepted_table}
 use Rattle.tables.specs.declared.Row.{Row}
-use Rattle.tables.specs.declared.Answer.{Answer}
-use Rattle.tables.specs.declared.Answer.TheVariants.{Done}
+use Rattle.tables.specs.Answers.{Answer}
+use Rattle.tables.specs.Answers.{Done}
 use Rattle.sets.specs.Sets.{rule_at, rules_from, rules_of, check_set, accepted_set}
 use Rattle.sets.proofs.Sets.{length_rules}
 use Rattle.tables.proofs.Answers.{and_then_passed, unless_passed, unless_any_passed}
@@ -31,6 +31,7 @@ use Rattle.logic.specs.Parts.{part_of, words_of, other_device, send_answer, send
 use Rattle.logic.specs.Demand.{IsCut, OnlyShort, SameVerdicts, PartIsCut}
 use Rattle.logic.proofs.Words.{length_words, words_whole, rows_words}
 use Rattle.logic.proofs.Cuts.{mode_is_cut}
+use Rattle.tables.specs.declared.Fault.TheVariants.{Mode, OtherDevice, ShortOutput}
 
 pub one_true : (b : Bool) → one b ≡ 1 → b ≡ true
 one_true true e = refl
@@ -58,7 +59,7 @@ module _ (rule table : List ℕ) (rule_ok : accepted_rule rule ≡ true) (table_
   marks_is room h =
       and_then_passed (check_rule rule) _ rule_ok
       ∙ and_then_passed (check_table table) _ table_ok
-      ∙ unless_passed (leb (row_count table) room) 17 _ (le-leb (row_count table) room h)
+      ∙ unless_passed (leb (row_count table) room) ShortOutput _ (le-leb (row_count table) room h)
 
   pub byte_count : length (mark_bytes (formula rule) (rows table)) ≡ row_count table
   byte_count = length-map (rows table) (λ r. one (marked (formula rule) (rows table) r)) ∙ length_rows table
@@ -139,15 +140,15 @@ module _ (checked : Answer) (checked_ok : is_done checked ≡ true) (Fs : List F
         ap not (eq-eqb (row_at table i).device (row_at table 0).device e)
 
     -- only a short output is left to refuse
-    pub part_is : answer ≡ unless (leb (length (words_of sent)) (length out)) 17 (Done (length sent))
+    pub part_is : answer ≡ unless (leb (length (words_of sent)) (length out)) ShortOutput (Done (length sent))
     unfolding send_answer
     part_is =
         and_then_passed checked _ checked_ok
         ∙ and_then_passed (check_table table) _ table_ok
-        ∙ unless_passed (leb 1 mode && leb mode 3) 13 _ (and_both (leb 1 mode) (leb mode 3) (le-leb 1 mode low) (le-leb mode 3 high))
-        ∙ unless_any_passed (other_device table) 14 (row_count table) _ one_device
+        ∙ unless_passed (leb 1 mode && leb mode 3) Mode _ (and_both (leb 1 mode) (leb mode 3) (le-leb 1 mode low) (le-leb mode 3 high))
+        ∙ unless_any_passed (other_device table) OtherDevice (row_count table) _ one_device
 
-    done_is : (b : Bool) → answer ≡ unless b 17 (Done (length sent)) → is_done answer ≡ true → answer ≡ Done (length sent)
+    done_is : (b : Bool) → answer ≡ unless b ShortOutput (Done (length sent)) → is_done answer ≡ true → answer ≡ Done (length sent)
     done_is true e d = e
     done_is false e d = absurd (false≢true (sym (ap is_done e) ∙ d))
 
@@ -161,7 +162,7 @@ module _ (checked : Answer) (checked_ok : is_done checked ≡ true) (Fs : List F
     part_short : OnlyShort answer
     part_short = subst OnlyShort (sym part_is) (go (leb (length (words_of sent)) (length out)))
       where
-        go : (b : Bool) → OnlyShort (unless b 17 (Done (length sent)))
+        go : (b : Bool) → OnlyShort (unless b ShortOutput (Done (length sent)))
         go true = inl refl
         go false = inr refl
 

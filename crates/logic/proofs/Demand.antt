@@ -14,7 +14,7 @@ use Rattle.tables.specs.Rules.{one, accepted_rule}
 use Rattle.tables.specs.Tables.{same_row, accepted_table}
 use Rattle.tables.specs.Joining.{join_tables, join_answer}
 use Rattle.tables.specs.declared.Row.{Row}
-use Rattle.tables.specs.declared.Answer.TheVariants.{Done}
+use Rattle.tables.specs.Answers.{Done}
 use Rattle.sets.specs.Sets.{rules_of}
 use Rattle.sets.proofs.Sets.{rule_accepted}
 use Rattle.tables.proofs.InPlace.{in_place_answer, in_place_table}

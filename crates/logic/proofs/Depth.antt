@@ -14,7 +14,7 @@ use Rattle.base.proofs.Bools.{either}
 use Rattle.tables.specs.Words.{row_at, row_count, rows}
 use Rattle.tables.specs.Tables.{root, is_parent, wrong_depth, check_table, accepted_table}
 use Rattle.tables.specs.declared.Row.{Row}
-use Rattle.tables.specs.declared.Answer.TheVariants.{Refused}
+use Rattle.tables.specs.Answers.{Refused}
 use Rattle.tables.proofs.Ordered.{Placed, has_parent, parent_fits, fits_depth, refused_26}
 use Rattle.tables.proofs.OrderedRows.{rows_parented}
 use Rattle.tables.proofs.Accepted.{behind, depth_le}
@@ -24,6 +24,7 @@ use Rattle.logic.specs.Parts.{ancestors}
 use Rattle.logic.specs.Demand.{Under, under_parent, under_above}
 use Rattle.logic.specs.Depth.{RightDepth, DeepAt, FirstWrong, DepthCounts}
 use Rattle.logic.proofs.Ancestors.{ancestor_under, under_ancestor, ancestors_child, ancestors_root}
+use Rattle.tables.specs.declared.Fault.TheVariants.{Depth}
 
 module _ (D : List Row) (ok : Proper D) where
   -- what a row hangs under is less deep
@@ -136,7 +137,7 @@ module _ (t : List ℕ) (ok : Placed t) where
         let d = right_fits w.0 i (omega (arith, w.1)) w.2 (right_below i w.0 w.1 w.1) right in
         true≢false (sym f ∙ fits_depth t i e w.0 w.1 w.2 d))
 
-first_wrong : (t : List ℕ) (i : ℕ) → check_table t ≡ Refused 26 i → FirstWrong t i
+first_wrong : (t : List ℕ) (i : ℕ) → check_table t ≡ Refused Depth i → FirstWrong t i
 first_wrong t i e =
     let f = refused_26 t i e in
     record {

@@ -8,7 +8,11 @@ use Rattle.base.specs.Lists.{◌∈◌, select, concat_map}
 use Rattle.base.proofs.Bools.{either}
 use Rattle.base.proofs.Lists.{concat_map_in, select_in, select_out}
 use Rattle.tables.specs.declared.Row.{Row}
-use Rattle.logic.specs.Formulas.{Formula, negation, joined, quantified, compared, Quantifier, Connective, and, or, implies, Over}
+use Rattle.logic.specs.Formulas.{Formula, negation, joined, quantified, compared}
+use Rattle.tables.specs.declared.Quantifier.{Quantifier}
+use Rattle.tables.specs.declared.Connective.{Connective}
+use Rattle.tables.specs.declared.Connective.TheVariants.{And, Or, Implies}
+use Rattle.tables.specs.declared.Over.{Over}
 use Rattle.logic.specs.Verdict.{bound, Bindings, bind, connect, settled, fold, ranges, holds}
 use Rattle.logic.specs.Marks.{left_decides, right_decides, because, decides, witnesses, reason}
 use Rattle.logic.specs.Unmarked.{ButValue}
@@ -18,21 +22,21 @@ use Rattle.logic.proofs.Ranging.{ranges_same}
 
 -- ---- a connective: what its reason leaves out does not matter
 left_enough : (c : Connective) (a b b' : Bool) → left_decides c a ≡ true → connect c a b ≡ connect c a b'
-left_enough and true b b' e = absurd (true≢false (sym e))
-left_enough and false b b' e = refl
-left_enough or true b b' e = refl
-left_enough or false b b' e = absurd (true≢false (sym e))
-left_enough implies true b b' e = absurd (true≢false (sym e))
-left_enough implies false b b' e = refl
+left_enough And true b b' e = absurd (true≢false (sym e))
+left_enough And false b b' e = refl
+left_enough Or true b b' e = refl
+left_enough Or false b b' e = absurd (true≢false (sym e))
+left_enough Implies true b b' e = absurd (true≢false (sym e))
+left_enough Implies false b b' e = refl
 
 right_is : (c : Connective) (a b : Bool) → right_decides c b ≡ true → connect c a b ≡ b
-right_is and true b e = refl
-right_is and false true e = e
-right_is and false false e = refl
-right_is or true b e = sym e
-right_is or false b e = refl
-right_is implies true b e = refl
-right_is implies false b e = sym e
+right_is And true b e = refl
+right_is And false true e = e
+right_is And false false e = refl
+right_is Or true b e = sym e
+right_is Or false b e = refl
+right_is Implies true b e = refl
+right_is Implies false b e = sym e
 
 -- ---- U has rows of T, maybe with other values, and no others
 pub record FromRows (T U : List Row) : Type 0 where

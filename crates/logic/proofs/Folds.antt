@@ -6,23 +6,24 @@ use mathlib.Core.List.{List, [], ◌∷◌}
 use Rattle.base.specs.Lists.{◌∈◌, put, select}
 use Rattle.base.proofs.Lists.{select_in, select_out}
 use Rattle.tables.specs.declared.Row.{Row}
-use Rattle.logic.specs.Formulas.{Quantifier, every, some}
+use Rattle.tables.specs.declared.Quantifier.{Quantifier}
+use Rattle.tables.specs.declared.Quantifier.TheVariants.{Every, Exists}
 use Rattle.logic.specs.Verdict.{settled, both, fold}
 use Rattle.logic.specs.Marks.{decides, first_deciding, witnesses}
 use Rattle.logic.proofs.Walks.{both_settled, settled_left, settled_right}
 use Rattle.logic.proofs.Reasons.{settled_undecided}
 
 both_first : (q : Quantifier) (a b : Bool) → a ≡ not (settled q) → both q a b ≡ not (settled q)
-both_first every true b e = absurd (true≢false e)
-both_first every false b e = refl
-both_first some true b e = refl
-both_first some false b e = absurd (false≢true e)
+both_first Every true b e = absurd (true≢false e)
+both_first Every false b e = refl
+both_first Exists true b e = refl
+both_first Exists false b e = absurd (false≢true e)
 
 both_second : (q : Quantifier) (a b : Bool) → b ≡ not (settled q) → both q a b ≡ not (settled q)
-both_second every true b e = e
-both_second every false b e = refl
-both_second some true b e = refl
-both_second some false b e = e
+both_second Every true b e = e
+both_second Every false b e = refl
+both_second Exists true b e = refl
+both_second Exists false b e = e
 
 pub fold_settled : (q : Quantifier) (f : Row → Bool) (xs : List Row) → ((r : Row) → r ∈ xs → f r ≡ settled q) → fold q f xs ≡ settled q
 fold_settled q f [] h = refl

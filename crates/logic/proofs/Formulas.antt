@@ -10,7 +10,10 @@ use Rattle.tables.specs.Words.{entry_at, entry_count}
 use Rattle.tables.specs.Answers.{is_done}
 use Rattle.tables.specs.Rules.{check_entries}
 use Rattle.tables.proofs.AcceptedRule.{child_later, right_later}
-use Rattle.logic.specs.Formulas.{Formula, negation, joined, quantified, every, some, and, or, implies, Operand, over_of, no_formula}
+use Rattle.logic.specs.Formulas.{Formula, negation, joined, quantified, over_of, no_formula}
+use Rattle.tables.specs.declared.Quantifier.TheVariants.{Every, Exists}
+use Rattle.tables.specs.declared.Connective.TheVariants.{And, Or, Implies}
+use Rattle.tables.specs.declared.Operand.{Operand}
 use Rattle.logic.specs.Formulas.{build, formulas, formula_by}
 
 -- the formula of entry i + k, over those that follow it
@@ -30,11 +33,11 @@ build_same : (operand : ℕ → ℕ → Operand) (k a b c : ℕ) (f g : ℕ → 
     → build operand (record { kind = k; a = a; b = b; c = c }) f ≡ build operand (record { kind = k; a = a; b = b; c = c }) g
 build_same operand zero a b c f g l r = refl
 build_same operand (suc zero) a b c f g l r = ap negation (l (omega arith))
-build_same operand (suc (suc zero)) a b c f g l r = ap₂ (joined and) (l (omega arith)) (r (omega arith) (omega arith))
-build_same operand (suc (suc (suc zero))) a b c f g l r = ap₂ (joined or) (l (omega arith)) (r (omega arith) (omega arith))
-build_same operand (suc (suc (suc (suc zero)))) a b c f g l r = ap₂ (joined implies) (l (omega arith)) (r (omega arith) (omega arith))
-build_same operand (suc (suc (suc (suc (suc zero))))) a b c f g l r = ap (quantified every (over_of b) c) (l (omega arith))
-build_same operand (suc (suc (suc (suc (suc (suc zero)))))) a b c f g l r = ap (quantified some (over_of b) c) (l (omega arith))
+build_same operand (suc (suc zero)) a b c f g l r = ap₂ (joined And) (l (omega arith)) (r (omega arith) (omega arith))
+build_same operand (suc (suc (suc zero))) a b c f g l r = ap₂ (joined Or) (l (omega arith)) (r (omega arith) (omega arith))
+build_same operand (suc (suc (suc (suc zero)))) a b c f g l r = ap₂ (joined Implies) (l (omega arith)) (r (omega arith) (omega arith))
+build_same operand (suc (suc (suc (suc (suc zero))))) a b c f g l r = ap (quantified Every (over_of b) c) (l (omega arith))
+build_same operand (suc (suc (suc (suc (suc (suc zero)))))) a b c f g l r = ap (quantified Exists (over_of b) c) (l (omega arith))
 build_same operand (suc (suc (suc (suc (suc (suc (suc k))))))) a b c f g l r = refl
 
 -- the formula of entry k, over those of later entries

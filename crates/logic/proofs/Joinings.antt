@@ -19,8 +19,8 @@ use Rattle.tables.specs.Words.{whole, row_words, row_at, row_count, rows_from, r
 use Rattle.tables.specs.Tables.{is_parent, has_twin, row_fault, table_length, check_table, accepted_table}
 use Rattle.tables.specs.Joining.{follows, join_tables}
 use Rattle.tables.specs.declared.Row.{Row}
-use Rattle.tables.specs.declared.Answer.{Answer}
-use Rattle.tables.specs.declared.Answer.TheVariants.{Done}
+use Rattle.tables.specs.Answers.{Answer}
+use Rattle.tables.specs.Answers.{Done}
 use Rattle.tables.proofs.Accepted.{length_ok, no_12, parent_device}
 use Rattle.tables.proofs.Answers.{and_then_passed, unless_passed, unless_any_passed}
 use Rattle.tables.proofs.Proper.{Above, Rising, rising_across, rows_proper}
@@ -32,6 +32,7 @@ use Rattle.logic.proofs.Words.{whole_is, is_whole, words_rows}
 use Rattle.logic.proofs.Members.{member, in_member, not_member}
 use Rattle.logic.proofs.Selections.{sub_accepted}
 use Rattle.logic.proofs.Devices.{NoneTwice, apart, twice_tail, Own, in_part, own_of, sent_of}
+use Rattle.tables.specs.declared.Fault.TheVariants.{TableLength, Sibling, Join, ShortOutput}
 
 -- ---- words of several devices, one after another
 module _ {A : Type 0} (f : A → List ℕ) where
@@ -138,19 +139,19 @@ module _ (Fs : List Formula) (ds : List Device) (twice : NoneTwice ds) (sends : 
             (row_in (sent es) (row_count (sent es) - 1) (omega arith)) (row_in d.cut 0 (omega arith))
 
     -- every check but the last passes
-    join_is : join (sent es) d ≡ unless (leb (length (sent es ++ d.cut)) d.room) 17 (Done (length (sent es ++ d.cut)))
+    join_is : join (sent es) d ≡ unless (leb (length (sent es ++ d.cut)) d.room) ShortOutput (Done (length (sent es ++ d.cut)))
     unfolding join_tables row_fault
     join_is =
         and_then_passed (check_table (sent es)) _ (sent_accepted es first_part)
         ∙ and_then_passed (check_table d.cut) _ cut_accepted
-        ∙ unless_passed (follows (sent es) d.cut) 16 _ behind
-        ∙ unless_passed (table_length (sent es ++ d.cut)) 8 _ (length_ok (sent es ++ d.cut) both_accepted)
-        ∙ unless_any_passed (has_twin (sent es ++ d.cut)) 12 (row_count (sent es ++ d.cut)) _ (no_12 (sent es ++ d.cut) both_accepted)
+        ∙ unless_passed (follows (sent es) d.cut) Join _ behind
+        ∙ unless_passed (table_length (sent es ++ d.cut)) TableLength _ (length_ok (sent es ++ d.cut) both_accepted)
+        ∙ unless_any_passed (has_twin (sent es ++ d.cut)) Sibling (row_count (sent es ++ d.cut)) _ (no_12 (sent es ++ d.cut) both_accepted)
 
     join_short : OnlyShort (join (sent es) d)
     join_short = subst OnlyShort (sym join_is) (go (leb (length (sent es ++ d.cut)) d.room))
       where
-        go : (b : Bool) → OnlyShort (unless b 17 (Done (length (sent es ++ d.cut))))
+        go : (b : Bool) → OnlyShort (unless b ShortOutput (Done (length (sent es ++ d.cut))))
         go true = inl refl
         go false = inr refl
 

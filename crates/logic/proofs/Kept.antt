@@ -14,7 +14,8 @@ use Rattle.tables.specs.declared.Row.{Row}
 use Rattle.tables.proofs.Accepted.{whole_rows}
 use Rattle.plans.specs.Plans.{removing, step_row, place_for, step_place, with_value, table_after}
 use Rattle.plans.proofs.Changes.{by_kind, set_adds_none, remove_adds_none, front, behind_it, from_it, rows_before_lem, rows_around, rows_set, rows_add, rows_remove, row_set, row_add}
-use Rattle.logic.specs.Formulas.{Formula, Over}
+use Rattle.logic.specs.Formulas.{Formula}
+use Rattle.tables.specs.declared.Over.{Over}
 use Rattle.logic.specs.Verdict.{Bindings, ranges, verdict}
 use Rattle.logic.specs.Parts.{reached}
 use Rattle.logic.specs.Trial.{UnreachedKept}

@@ -8,7 +8,8 @@ use mathlib.Core.List.{List, ◌∷◌, ◌++◌}
 use Rattle.base.specs.Lists.{◌∈◌, select}
 use Rattle.base.proofs.Lists.{select_out, concat_map_within}
 use Rattle.tables.specs.declared.Row.{Row}
-use Rattle.logic.specs.Formulas.{Formula, negation, joined, quantified, compared, Connective}
+use Rattle.logic.specs.Formulas.{Formula, negation, joined, quantified, compared}
+use Rattle.tables.specs.declared.Connective.{Connective}
 use Rattle.logic.specs.Verdict.{bound, Bindings, bind, ranges, holds}
 use Rattle.logic.specs.Marks.{because, witnesses, reason}
 use Rattle.logic.specs.Parts.{Chains, spare_in}

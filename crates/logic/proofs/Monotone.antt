@@ -10,7 +10,15 @@ use Rattle.base.proofs.Bools.{either}
 use Rattle.base.proofs.Lists.{any_at, any_hit}
 use Rattle.tables.specs.Tables.{root, is_parent}
 use Rattle.tables.specs.declared.Row.{Row}
-use Rattle.logic.specs.Formulas.{Formula, negation, joined, quantified, compared, Quantifier, every, some, Connective, and, or, implies, Comparison, roots, under, Operand, variable, constant}
+use Rattle.logic.specs.Formulas.{Formula, negation, joined, quantified, compared}
+use Rattle.tables.specs.declared.Quantifier.{Quantifier}
+use Rattle.tables.specs.declared.Quantifier.TheVariants.{Every, Exists}
+use Rattle.tables.specs.declared.Connective.{Connective}
+use Rattle.tables.specs.declared.Connective.TheVariants.{And, Or, Implies}
+use Rattle.tables.specs.declared.Comparison.{Comparison}
+use Rattle.tables.specs.declared.Over.TheVariants.{Roots, Under}
+use Rattle.tables.specs.declared.Operand.{Operand}
+use Rattle.tables.specs.declared.Operand.TheVariants.{Variable, Constant}
 use Rattle.logic.specs.Verdict.{Place, nothing, bound, Bindings, bind, named, hangs, settled}
 use Rattle.logic.specs.Reading.{Reading, certain, undecided, reads, not_reading, and_reading, connect_reading, known, value_read, operand_read, compare_reading, both_reading, under_bound, first_test, second_test, under_elsewhere, over_roots, under_place, reading}
 use Rattle.logic.specs.Elsewhere.{body_reading, OneWay, ReadsOneWay}
@@ -54,13 +62,13 @@ below_and (free {y = x'}) (stay {a = true}) = free
 below_and (free {y = x'}) (free {y = y'}) = free
 
 below_connect : (c : Connective) {x x' y y' : Reading} → Below x x' → Below y y' → Below (connect_reading c x y) (connect_reading c x' y')
-below_connect and h k = below_and h k
-below_connect or h k = below_not (below_and (below_not h) (below_not k))
-below_connect implies h k = below_not (below_and h (below_not k))
+below_connect And h k = below_and h k
+below_connect Or h k = below_not (below_and (below_not h) (below_not k))
+below_connect Implies h k = below_not (below_and h (below_not k))
 
 below_both : (q : Quantifier) {x x' y y' : Reading} → Below x x' → Below y y' → Below (both_reading q x y) (both_reading q x' y')
-below_both every h k = below_connect and h k
-below_both some h k = below_connect or h k
+below_both Every h k = below_connect And h k
+below_both Exists h k = below_connect Or h k
 
 -- ---- readings of one value
 certain_stays : {x y : Reading} {a : Bool} → Below x y → x ≡ certain a → y ≡ certain a
@@ -84,8 +92,8 @@ not_both_values true x e k = let z : certain true ≡ certain false = sym (reads
 not_both_values false x e k = let z : certain true ≡ certain false = sym (reads_is true x k) ∙ reads_is false x e in true≢false (cc)
 
 both_settled : (q : Quantifier) → both_reading q (certain (settled q)) (certain (settled q)) ≡ certain (settled q)
-both_settled every = refl
-both_settled some = refl
+both_settled Every = refl
+both_settled Exists = refl
 
 all_settled : (q : Quantifier) (f : Place → Reading) (xs : List Row) → ((r : Row) → reads (settled q) (f (bound r)) ≡ true) → under_bound q f xs ≡ certain (settled q)
 all_settled q f [] h = refl
@@ -128,12 +136,12 @@ module _ (q : Quantifier) (f g : Place → Reading) (mono : (p p' : Place) → K
 
 -- ---- comparisons
 operand_below : {σ τ : Bindings} → Extends σ τ → (c : Comparison) (m : ℕ) (w : Operand) → Below (compare_reading c (known m) (operand_read σ w)) (compare_reading c (known m) (operand_read τ w))
-operand_below g c m (variable v) = go (g v)
+operand_below g c m (Variable v) = go (g v)
   where
     go : {p p' : Place} → Known p p' → Below (compare_reading c (known m) (value_read p)) (compare_reading c (known m) (value_read p'))
     go elsewhere = free
     go same = stay
-operand_below g c m (constant k) = stay
+operand_below g c m (Constant k) = stay
 
 compared_below : {σ τ : Bindings} {p p' : Place} → Extends σ τ → (c : Comparison) (w : Operand) → Known p p'
     → Below (compare_reading c (value_read p) (operand_read σ w)) (compare_reading c (value_read p') (operand_read τ w))
@@ -144,10 +152,10 @@ monotone : (φ : Formula) (D : List Row) (d : ℕ) {σ τ : Bindings} → Extend
 unfolding reading
 monotone (negation φ) D d g = below_not (monotone φ D d g)
 monotone (joined c φ ψ) D d g = below_connect c (monotone φ D d g) (monotone ψ D d g)
-monotone (quantified q roots n φ) D d {σ} {τ} g =
+monotone (quantified q Roots n φ) D d {σ} {τ} g =
     roots_below q (λ p. reading φ D (suc d) (bind d p σ)) (λ p. reading φ D (suc d) (bind d p τ)) (λ p p' k. monotone φ D (suc d) (bind_extends d k g))
     (select (λ r. root r && named n r) D)
-monotone (quantified q (under v) n φ) D d {σ} {τ} g =
+monotone (quantified q (Under v) n φ) D d {σ} {τ} g =
     under_below q (λ p. reading φ D (suc d) (bind d p σ)) (λ p. reading φ D (suc d) (bind d p τ)) (λ p p' k. monotone φ D (suc d) (bind_extends d k g)) n D (g v)
 monotone (compared c v w) D d g = compared_below g c w (g v)
 
@@ -181,21 +189,21 @@ over_tests k x y = cond x (certain (not (settled k))) (cond y (certain (settled 
 settled_by_second : (k : Quantifier) (x y : Bool) → (x && y) ≡ false → reads (settled k) (over_tests k x y) ≡ y
 unfolding over_tests
 settled_by_second k true true h = absurd (true≢false h)
-settled_by_second every true false h = refl
-settled_by_second some true false h = refl
-settled_by_second every false true h = refl
-settled_by_second some false true h = refl
-settled_by_second every false false h = refl
-settled_by_second some false false h = refl
+settled_by_second Every true false h = refl
+settled_by_second Exists true false h = refl
+settled_by_second Every false true h = refl
+settled_by_second Exists false true h = refl
+settled_by_second Every false false h = refl
+settled_by_second Exists false false h = refl
 
 decided_by_first : (k : Quantifier) (x y : Bool) → reads (not (settled k)) (over_tests k x y) ≡ x
 unfolding over_tests
-decided_by_first every true y = refl
-decided_by_first some true y = refl
-decided_by_first every false true = refl
-decided_by_first some false true = refl
-decided_by_first every false false = refl
-decided_by_first some false false = refl
+decided_by_first Every true y = refl
+decided_by_first Exists true y = refl
+decided_by_first Every false true = refl
+decided_by_first Exists false true = refl
+decided_by_first Every false false = refl
+decided_by_first Exists false false = refl
 
 pub roots_settled : (q : Quantifier) (φ : Formula) (D : List Row) (d : ℕ) (b : Bindings) (own : List Row)
     → reads (settled q) (over_roots q (body_reading φ D d b) own) ≡ second_test q (body_reading φ D d b)

@@ -13,14 +13,21 @@ use Rattle.tables.specs.Words.{entry_at, entry_count}
 use Rattle.tables.specs.Rules.{nesting_limit, is_quantifier, one, is_child, around_from, around, bad_child, bad_naming}
 use Rattle.tables.specs.Rules.{entry_fault, check_entries}
 use Rattle.tables.specs.declared.Entry.{Entry}
-use Rattle.tables.specs.declared.Answer.TheVariants.{Refused}
+use Rattle.tables.specs.Answers.{Refused}
 use Rattle.tables.proofs.AcceptedRule as entries
 use Rattle.tables.proofs.AcceptedRule.{refused_entry, passed_entries}
 use Rattle.tables.proofs.Answers.{FirstAtFault}
-use Rattle.logic.specs.Formulas.{Formula, joined, and, Operand, build, formula_by}
+use Rattle.logic.specs.Formulas.{Formula, joined, build, formula_by}
+use Rattle.tables.specs.declared.Connective.TheVariants.{And}
+use Rattle.tables.specs.declared.Operand.{Operand}
 use Rattle.logic.specs.Nesting.{levels, LevelsLimited}
 use Rattle.logic.proofs.Formulas.{later, later_is, formula_later, formula_at_lem}
 use Rattle.logic.proofs.EntryTree.{parent_kind, parent_of_lem}
+use Rattle.tables.specs.declared.Fault.TheVariants.{Nesting}
+use Rattle.tables.specs.declared.Fault.TheVariants.{Child}
+use Rattle.tables.specs.declared.Fault.TheVariants.{Naming}
+use Rattle.tables.specs.declared.Fault.TheVariants.{RuleLength}
+use Rattle.tables.specs.Refusals.{number_of}
 
 -- ---- the levels of an entry around which d quantifiers stand
 two_sides : (d l x y : ℕ) → d + x ≤ l → d + y ≤ l → d + max x y ≤ l
@@ -28,7 +35,7 @@ two_sides d l x y h g = let m : max x y ≤ l - d = max-le (omega arith) (omega 
 
 module _ (operand : ℕ → ℕ → Operand) (a b c : ℕ) (f : ℕ → Formula) (d l : ℕ) (low : d ≤ l) where
   -- kinds 2 to 4
-  connective : d + levels (f a) ≤ l → d + levels (f b) ≤ l → d + levels (joined and (f a) (f b)) ≤ l
+  connective : d + levels (f a) ≤ l → d + levels (f b) ≤ l → d + levels (joined And (f a) (f b)) ≤ l
   unfolding levels
   connective left right = omega (arith, left, right, two_sides d l (levels (f a)) (levels (f b)) left right)
 
@@ -192,10 +199,13 @@ module _ (operand : ℕ → ℕ → Operand) (r : List ℕ) (children : (i : ℕ
   rule_levels zero j l h = absurd (omega arith)
   rule_levels (suc m) j l h = entry_levels j h (λ i k g. rule_levels m i (omega arith) g)
 
--- ---- refused with 6
-module _ (operand : ℕ → ℕ → Operand) (most : ℕ) (r : List ℕ) (p : ℕ) (refused : check_entries most r ≡ Refused 6 p) where
-  at_first : FirstAtFault (entry_fault most r) (entry_count r) 6 p
-  at_first = refused_entry most r 6 p (omega arith) refused
+-- ---- refused for its nesting
+not_length : RuleLength ≡ Nesting → ⊥
+not_length e = let z : number_of RuleLength ≡ number_of Nesting = ap number_of e in omega arith
+
+module _ (operand : ℕ → ℕ → Operand) (most : ℕ) (r : List ℕ) (p : ℕ) (refused : check_entries most r ≡ Refused Nesting p) where
+  at_first : FirstAtFault (entry_fault most r) (entry_count r) Nesting p
+  at_first = refused_entry most r Nesting p not_length refused
 
   too_deep_lem : (is_quantifier (entry_at r p) && leb nesting_limit (around r p)) ≡ true
   unfolding entry_fault
@@ -220,14 +230,14 @@ module _ (operand : ℕ → ℕ → Operand) (most : ℕ) (r : List ℕ) (p : �
   unfolding entry_fault Rule-levels
   more_levels =
       let h = at_first.inside in
-      let passed = passed_entries most r 6 p (omega arith) refused in
+      let passed = passed_entries most r Nesting p not_length refused in
       let e = entry_at r p in
       omega (
         arith,
         as_many_around,
         levels_quantifier operand e.a e.b e.c (later operand r p) 0 e.kind at_quantifier,
         ap levels (formula_later operand r p h),
-        rule_levels operand r (passed 4 refl) (passed 5 refl) (suc p) p (omega arith) h,
+        rule_levels operand r (passed Child refl) (passed Naming refl) (suc p) p (omega arith) h,
       )
 
 pub limited : LevelsLimited

@@ -5,7 +5,8 @@ use mathlib.Core.Bool.{◌&&◌}
 use lib.Dec.{eqb}
 use Rattle.tables.specs.Tables.{is_parent}
 use Rattle.tables.specs.declared.Row.{Row}
-use Rattle.logic.specs.Formulas.{Over, roots, under}
+use Rattle.tables.specs.declared.Over.{Over}
+use Rattle.tables.specs.declared.Over.TheVariants.{Roots, Under}
 use Rattle.logic.specs.Verdict.{Place, nothing, bound, Bindings, hangs, ranges}
 use Rattle.logic.proofs.Names.{same_name}
 
@@ -18,5 +19,5 @@ module _ (r s : Row) (device : s.device ≡ r.device) (up : s.up ≡ r.up) where
   hangs_same (bound p) = parent_same r s p p device up refl refl
 
   pub ranges_same : (o : Over) (n : ℕ) (b : Bindings) → s.name ≡ r.name → ranges o n b s ≡ ranges o n b r
-  ranges_same roots n b name = ap₂ ◌&&◌ (ap (λ (u : ℕ). eqb u 0) up) (same_name n s r name)
-  ranges_same (under v) n b name = ap₂ ◌&&◌ (hangs_same (b v)) (same_name n s r name)
+  ranges_same Roots n b name = ap₂ ◌&&◌ (ap (λ (u : ℕ). eqb u 0) up) (same_name n s r name)
+  ranges_same (Under v) n b name = ap₂ ◌&&◌ (hangs_same (b v)) (same_name n s r name)

@@ -11,30 +11,31 @@ use Rattle.base.specs.Lists.{◌∈◌, put, select}
 use Rattle.base.proofs.Bools.{either}
 use Rattle.tables.specs.Words.{row_at, rows_from}
 use Rattle.tables.specs.declared.Row.{Row}
-use Rattle.logic.specs.Formulas.{Quantifier, every, some}
+use Rattle.tables.specs.declared.Quantifier.{Quantifier}
+use Rattle.tables.specs.declared.Quantifier.TheVariants.{Every, Exists}
 use Rattle.logic.specs.Verdict.{settled, fold}
 use Rattle.logic.specs.Marks.{decides, first_deciding, witnesses}
 use Rattle.logic.proofs.Walks.{both_settled}
 
 pub settled_undecided : (q : Quantifier) → decides q (settled q) ≡ false
-settled_undecided every = refl
-settled_undecided some = refl
+settled_undecided Every = refl
+settled_undecided Exists = refl
 
 pub undecided_settled : (q : Quantifier) (a : Bool) → decides q a ≡ false → a ≡ settled q
-undecided_settled every true e = refl
-undecided_settled every false e = absurd (true≢false e)
-undecided_settled some a e = e
+undecided_settled Every true e = refl
+undecided_settled Every false e = absurd (true≢false e)
+undecided_settled Exists a e = e
 
 pub unsettled_decides : (q : Quantifier) (a : Bool) → (a ≡ settled q → ⊥) → decides q a ≡ true
-unsettled_decides every true h = absurd (h refl)
-unsettled_decides every false h = refl
-unsettled_decides some true h = refl
-unsettled_decides some false h = absurd (h refl)
+unsettled_decides Every true h = absurd (h refl)
+unsettled_decides Every false h = refl
+unsettled_decides Exists true h = refl
+unsettled_decides Exists false h = absurd (h refl)
 
 pub decided_unsettled : (q : Quantifier) (a : Bool) → decides q a ≡ true → a ≡ not (settled q)
-decided_unsettled every true e = absurd (true≢false (sym e))
-decided_unsettled every false e = refl
-decided_unsettled some a e = e
+decided_unsettled Every true e = absurd (true≢false (sym e))
+decided_unsettled Every false e = refl
+decided_unsettled Exists a e = e
 
 module _ (q : Quantifier) (f : Row → Bool) where
   -- where a quantifier is decided, the first row that decides is one of its rows

@@ -13,14 +13,19 @@ use Rattle.tables.specs.Words.{rows, row_count}
 use Rattle.tables.specs.Rules.{check_rule}
 use Rattle.tables.specs.Tables.{check_table}
 use Rattle.tables.specs.declared.Row.{Row}
-use Rattle.tables.specs.declared.Answer.{Answer}
-use Rattle.tables.specs.declared.Answer.TheVariants.{Done}
-use Rattle.logic.specs.Formulas.{Formula, negation, joined, quantified, compared, Quantifier, Over, roots, under, formula}
+use Rattle.tables.specs.Answers.{Answer}
+use Rattle.tables.specs.Answers.{Done}
+use Rattle.logic.specs.Formulas.{Formula, negation, joined, quantified, compared, formula}
+use Rattle.tables.specs.declared.Quantifier.{Quantifier}
+use Rattle.tables.specs.declared.Over.{Over}
+use Rattle.tables.specs.declared.Over.TheVariants.{Roots, Under}
 use Rattle.logic.specs.Verdict.{Place, nothing, bound, Bindings, bind, ranges}
 use Rattle.logic.specs.Reading.{Reading, first_test, second_test}
 use Rattle.logic.specs.Elsewhere.{body_reading}
 use Rattle.logic.specs.Parts.{Chains, no_chains, chains_with, reach, part_of, words_of, other_device, send_answer, send_out, part_answer, part_out}
 use Rattle.logic.proofs.Monotone.{one_way}
+use Rattle.tables.specs.declared.Fault.TheVariants.{Mode, OtherDevice, ShortOutput}
+use Rattle.tables.specs.declared.Fault.{Fault}
 
 -- ---- the former condition: in a body read for spare rows, one quantifier over roots meets both its first and its second test
 -- the places at which a quantifier's body is read
@@ -29,12 +34,12 @@ places_under nothing own = nothing ∷ []
 places_under (bound p) own = map bound own
 
 abbrev places_read : Over → Bindings → List Row → List Place
-places_read roots b own = nothing ∷ map bound own
-places_read (under v) b own = places_under (b v) own
+places_read Roots b own = nothing ∷ map bound own
+places_read (Under v) b own = places_under (b v) own
 
 abbrev both_tests : Over → Quantifier → (Place → Reading) → List Row → Bool
-both_tests roots q body own = first_test q body own && second_test q body
-both_tests (under v) q body own = false
+both_tests Roots q body own = first_test q body own && second_test q body
+both_tests (Under v) q body own = false
 
 contradicts : Formula → List Row → ℕ → Bindings → Bool
 contradicts (negation φ) D d b = contradicts φ D d b
@@ -60,8 +65,8 @@ neither : (a b : Bool) → a ≡ false → b ≡ false → (a || b) ≡ false
 neither a b e h = rw (e, h)
 
 not_both_tests : (o : Over) (q : Quantifier) (φ : Formula) (D : List Row) (d : ℕ) (b : Bindings) (own : List Row) → both_tests o q (body_reading φ D d b) own ≡ false
-not_both_tests roots q φ D d b own = (one_way φ D d b).not_both q own
-not_both_tests (under v) q φ D d b own = refl
+not_both_tests Roots q φ D d b own = (one_way φ D d b).not_both q own
+not_both_tests (Under v) q φ D d b own = refl
 
 never_contradicts : (φ : Formula) (D : List Row) (d : ℕ) (b : Bindings) → contradicts φ D d b ≡ false
 unfolding contradicts
@@ -86,24 +91,24 @@ unfolding contradiction
 never_met F D = any_none (contradicts_in F D 0 no_chains) D (λ r m. never_in F D 0 no_chains r)
 
 -- ---- the former answer, and the output after it
-module _ (rule table : List ℕ) (mode : ℕ) where
+module _ (retired : Fault) (rule table : List ℕ) (mode : ℕ) where
   abbrev sent : List Row
   sent = part_of (formula rule ∷ []) mode (rows table)
 
   abbrev fits : ℕ → Answer
-  fits room = unless (leb (length (words_of sent)) room) 17 (Done (length sent))
+  fits room = unless (leb (length (words_of sent)) room) ShortOutput (Done (length sent))
 
   pub former_answer : ℕ → Answer
   former_answer room =
       and_then (check_rule rule) (and_then (check_table table)
-      (unless (leb 1 mode && leb mode 3) 13
-      (unless_any (other_device table) 14 (row_count table)
-      (unless (not (eqb mode 3 && contradiction (formula rule) (rows table))) 15 (fits room)))))
+      (unless (leb 1 mode && leb mode 3) Mode
+      (unless_any (other_device table) OtherDevice (row_count table)
+      (unless (not (eqb mode 3 && contradiction (formula rule) (rows table))) retired (fits room)))))
 
   pub former_out : List ℕ → List ℕ
   former_out out = output (former_answer (length out)) (words_of sent) out
 
-  no_refusal : (m : Bool) (next : Answer) → unless (not (m && contradiction (formula rule) (rows table))) 15 next ≡ next
+  no_refusal : (m : Bool) (next : Answer) → unless (not (m && contradiction (formula rule) (rows table))) retired next ≡ next
   no_refusal true next = rw (never_met (formula rule) (rows table))
   no_refusal false next = refl
 
@@ -111,7 +116,7 @@ module _ (rule table : List ℕ) (mode : ℕ) where
   pub answer_as_before : (room : ℕ) → part_answer rule table mode room ≡ former_answer room
   unfolding send_answer former_answer
   answer_as_before room =
-      ap (λ (z : Answer). and_then (check_rule rule) (and_then (check_table table) (unless (leb 1 mode && leb mode 3) 13 (unless_any (other_device table) 14 (row_count table) z))))
+      ap (λ (z : Answer). and_then (check_rule rule) (and_then (check_table table) (unless (leb 1 mode && leb mode 3) Mode (unless_any (other_device table) OtherDevice (row_count table) z))))
       (sym (no_refusal (eqb mode 3) (fits room)))
 
   pub output_as_before : (out : List ℕ) → part_out rule table mode out ≡ former_out out

@@ -12,25 +12,27 @@ use borrow.Author.Tests.{leb-true}
 use Rattle.base.proofs.Bools.{either, and_left, and_right}
 use Rattle.tables.specs.Answers.{place, is_done, and_then, unless}
 use Rattle.tables.specs.Tables.{check_table, accepted_table}
-use Rattle.tables.specs.declared.Answer.{Answer}
-use Rattle.tables.specs.declared.Answer.TheVariants.{Done, Refused}
+use Rattle.tables.specs.Answers.{Answer}
+use Rattle.tables.specs.Answers.{Done}
 use Rattle.tables.proofs.Answers.{unless_ok, and_then_first, and_then_next}
 use Rattle.plans.specs.Plans.{step_at, steps_from, step_place, table_after}
 use Rattle.logic.specs.Formulas.{Formula}
 use Rattle.logic.specs.Trial.{State, stepped, at_step, fits, step_answer, Outcome, try_steps, state_at}
+use Rattle.tables.specs.declared.Fault.TheVariants.{ShortOutput}
+use Rattle.std.specs.Prelude.{Err}
 
 at_done : (k : ℕ) (a : Answer) → is_done (at_step k a) ≡ true → is_done a ≡ true
 at_done k (Done m) e = refl
-at_done k (Refused m p) e = e
+at_done k (Err r) e = e
 
 at_place : (k : ℕ) (a : Answer) → is_done (at_step k a) ≡ false → place (at_step k a) ≡ k
 at_place k (Done m) e = absurd (true≢false e)
-at_place k (Refused m p) e = refl
+at_place k (Err r) e = refl
 
 -- ---- a step that is done
 module _ (Fs : List Formula) (words bytes k : ℕ) (x : State) (s : List ℕ) where
   abbrev room : Answer
-  room = unless (fits (stepped Fs x s) words bytes) 17 (Done k)
+  room = unless (fits (stepped Fs x s) words bytes) ShortOutput (Done k)
 
   module _ (done : is_done (step_answer Fs words bytes k x s) ≡ true) where
     behind_23 : is_done (and_then (check_table (table_after x.table s)) room) ≡ true
@@ -45,7 +47,7 @@ module _ (Fs : List Formula) (words bytes k : ℕ) (x : State) (s : List ℕ) wh
     accepted_after = and_then_first (check_table (table_after x.table s)) room behind_23
 
     both_fit : fits (stepped Fs x s) words bytes ≡ true
-    both_fit = unless_ok (fits (stepped Fs x s) words bytes) 17 (Done k) (and_then_next (check_table (table_after x.table s)) room behind_23)
+    both_fit = unless_ok (fits (stepped Fs x s) words bytes) ShortOutput (Done k) (and_then_next (check_table (table_after x.table s)) room behind_23)
 
     pub table_fits : length (table_after x.table s) ≤ words
     table_fits = leb-true _ words (and_left (leb (length (table_after x.table s)) words) _ both_fit)

@@ -18,8 +18,8 @@ use Rattle.tables.specs.Words.{whole, entry_words, entry_count, rows}
 use Rattle.tables.specs.Rules.{one, check_rule}
 use Rattle.tables.specs.Tables.{check_table}
 use Rattle.tables.specs.declared.Row.{Row}
-use Rattle.tables.specs.declared.Answer.{Answer}
-use Rattle.tables.specs.declared.Answer.TheVariants.{Done, Refused}
+use Rattle.tables.specs.Answers.{Answer}
+use Rattle.tables.specs.Answers.{Done, Refused}
 use Rattle.tables.proofs.Answers.{unless_passed}
 use Rattle.tables.proofs.Whole.{whole_lines}
 use Rattle.sets.specs.Sets.{rule_at, rules_from, rules_of, counts_fit, shifted, rule_by_rule, check_set}
@@ -29,11 +29,13 @@ use Rattle.logic.specs.Parts.{reached_in, reached, spare_in, spare, reached_by_a
 use Rattle.logic.specs.Demand.{Under}
 use Rattle.logic.specs.Sets.{own_count, OfOne, SetOfOne, AsOneFormula, CutForEach, conjunction, AsConjunction}
 use Rattle.logic.proofs.Cuts.{cut_for}
+use Rattle.tables.specs.declared.Fault.TheVariants.{ShortOutput, Counts}
+use Rattle.std.specs.Prelude.{Err}
 
 -- ---- a set of one
 unshifted : (a : Answer) → shifted 0 a ≡ a
 unshifted (Done n) = refl
-unshifted (Refused k p) = ap (Refused k) (omega arith)
+unshifted (Err r) = ap (Refused r.fault) (omega arith)
 
 module _ (rule : List ℕ) (ok : whole entry_words rule ≡ true) where
   abbrev n : ℕ
@@ -57,21 +59,21 @@ module _ (rule : List ℕ) (ok : whole entry_words rule ≡ true) where
   check_one : check_set rule (own_count rule) ≡ and_then (check_rule rule) (Done 1)
   unfolding check_set rule_by_rule sum_below
   check_one =
-      unless_passed (counts_fit rule (own_count rule)) 20 _ fits
+      unless_passed (counts_fit rule (own_count rule)) Counts _ fits
       ∙ ap (λ (a : Answer). and_then a (Done 1)) (unshifted (check_rule (rule_at rule (own_count rule) 0)) ∙ ap check_rule whole_rule)
 
   -- the rule's refusals, then the table's, then 17
-  in_turn : (a b : Answer) (v room : ℕ) → and_then (and_then a (Done 1)) (and_then b (fitting (v ∷ []) room)) ≡ and_then (and_then a (and_then b (Done v))) (unless (leb 1 room) 17 (Done 1))
+  in_turn : (a b : Answer) (v room : ℕ) → and_then (and_then a (Done 1)) (and_then b (fitting (v ∷ []) room)) ≡ and_then (and_then a (and_then b (Done v))) (unless (leb 1 room) ShortOutput (Done 1))
   in_turn (Done x) (Done y) v room = refl
-  in_turn (Done x) (Refused k p) v room = refl
-  in_turn (Refused k p) b v room = refl
+  in_turn (Done x) (Err r) v room = refl
+  in_turn (Err r) b v room = refl
 
   value_is : (a b : Answer) (v room : ℕ) (out : List ℕ)
       → output (and_then (and_then a (Done 1)) (and_then b (fitting (v ∷ []) room))) (v ∷ []) out
       ≡ output (and_then (and_then a (Done 1)) (and_then b (fitting (v ∷ []) room))) (value (and_then a (and_then b (Done v))) ∷ []) out
   value_is (Done x) (Done y) v room out = refl
-  value_is (Done x) (Refused k p) v room out = refl
-  value_is (Refused k p) b v room out = refl
+  value_is (Done x) (Err r) v room out = refl
+  value_is (Err r) b v room out = refl
 
   module _ (pool : List ℕ) where
     abbrev byte : ℕ
@@ -80,7 +82,7 @@ module _ (rule : List ℕ) (ok : whole entry_words rule ≡ true) where
     abbrev answered : Answer → List Formula → ℕ → Answer
     answered a Fs room = and_then a (and_then (check_table pool) (fitting (map (λ F. one (verdict F (rows pool))) Fs) room))
 
-    verdicts_one : (room : ℕ) → set_verdicts_answer rule (own_count rule) pool room ≡ and_then (verdict_answer rule pool) (unless (leb 1 room) 17 (Done 1))
+    verdicts_one : (room : ℕ) → set_verdicts_answer rule (own_count rule) pool room ≡ and_then (verdict_answer rule pool) (unless (leb 1 room) ShortOutput (Done 1))
     unfolding set_verdicts_answer verdict_answer
     verdicts_one room = ap₂ (λ (a : Answer) (Fs : List Formula). answered a Fs room) check_one formulas_one ∙ in_turn (check_rule rule) (check_table pool) byte room
 
@@ -95,7 +97,7 @@ module _ (rule : List ℕ) (ok : whole entry_words rule ≡ true) where
   -- a value that no one reads
   same_next : (a next : Answer) → and_then (and_then a (Done 1)) next ≡ and_then a next
   same_next (Done x) next = refl
-  same_next (Refused k p) next = refl
+  same_next (Err r) next = refl
 
   send_one : (table : List ℕ) (mode room : ℕ) → send_answer (check_set rule (own_count rule)) (formulas_of rule (own_count rule)) table mode room ≡ send_answer (check_rule rule) (formula rule ∷ []) table mode room
   unfolding send_answer

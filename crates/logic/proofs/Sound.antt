@@ -12,7 +12,15 @@ use Rattle.base.proofs.Lists.{select_in, select_out, select_within, any_at}
 use Rattle.tables.specs.Tables.{root, is_parent}
 use Rattle.tables.specs.declared.Row.{Row}
 use Rattle.tables.proofs.Accepted.{parent_device}
-use Rattle.logic.specs.Formulas.{Formula, negation, joined, quantified, compared, Quantifier, every, some, Connective, and, or, implies, Comparison, roots, under, Operand, variable, constant}
+use Rattle.logic.specs.Formulas.{Formula, negation, joined, quantified, compared}
+use Rattle.tables.specs.declared.Quantifier.{Quantifier}
+use Rattle.tables.specs.declared.Quantifier.TheVariants.{Every, Exists}
+use Rattle.tables.specs.declared.Connective.{Connective}
+use Rattle.tables.specs.declared.Connective.TheVariants.{And, Or, Implies}
+use Rattle.tables.specs.declared.Comparison.{Comparison}
+use Rattle.tables.specs.declared.Over.TheVariants.{Roots, Under}
+use Rattle.tables.specs.declared.Operand.{Operand}
+use Rattle.tables.specs.declared.Operand.TheVariants.{Variable, Constant}
 use Rattle.logic.specs.Verdict.{Place, nothing, bound, Bindings, bind, value_at, value_of, compare, connect, named, hangs, settled, both, fold, holds}
 use Rattle.logic.specs.Reading.{Reading, certain, undecided, reads, not_reading, and_reading, connect_reading, known, value_read, operand_read, compare_reading, both_reading, under_bound, first_test, second_test, under_elsewhere, over_roots, under_place, reading}
 use Rattle.logic.proofs.Folds.{fold_all, fold_hit}
@@ -61,14 +69,14 @@ implies_by_and true false = refl
 implies_by_and false b = refl
 
 agrees_connect : (c : Connective) {x y : Reading} {a b : Bool} → Agrees x a → Agrees y b → Agrees (connect_reading c x y) (connect c a b)
-agrees_connect and h k = agrees_and h k
-agrees_connect or {x} {y} {a} {b} h k =
-    subst (Agrees (connect_reading or x y)) (or_by_and a b) (agrees_not (agrees_and (agrees_not h) (agrees_not k)))
-agrees_connect implies {x} {y} {a} {b} h k = subst (Agrees (connect_reading implies x y)) (implies_by_and a b) (agrees_not (agrees_and h (agrees_not k)))
+agrees_connect And h k = agrees_and h k
+agrees_connect Or {x} {y} {a} {b} h k =
+    subst (Agrees (connect_reading Or x y)) (or_by_and a b) (agrees_not (agrees_and (agrees_not h) (agrees_not k)))
+agrees_connect Implies {x} {y} {a} {b} h k = subst (Agrees (connect_reading Implies x y)) (implies_by_and a b) (agrees_not (agrees_and h (agrees_not k)))
 
 agrees_both : (q : Quantifier) {x y : Reading} {a b : Bool} → Agrees x a → Agrees y b → Agrees (both_reading q x y) (both q a b)
-agrees_both every h k = agrees_connect and h k
-agrees_both some h k = agrees_connect or h k
+agrees_both Every h k = agrees_connect And h k
+agrees_both Exists h k = agrees_connect Or h k
 
 -- ---- quantifiers
 pub reads_agrees : {x : Reading} {a : Bool} (k : Bool) → reads k x ≡ true → Agrees x a → a ≡ k
@@ -107,12 +115,12 @@ module _ (q : Quantifier) (body : Place → Reading) (f : Row → Bool) where
 -- ---- comparisons
 operand_fits : {δ : ℕ} {σ ρ : Bindings} → Within δ σ ρ → (c : Comparison) (m : ℕ) (w : Operand)
     → Agrees (compare_reading c (known m) (operand_read σ w)) (compare c m (value_of ρ w))
-operand_fits {δ} g c m (variable v) = go (g v)
+operand_fits {δ} g c m (Variable v) = go (g v)
   where
     go : {p p' : Place} → Fits δ p p' → Agrees (compare_reading c (known m) (value_read p)) (compare c m (value_at p'))
     go elsewhere = free
     go (own e) = sure
-operand_fits g c m (constant k) = sure
+operand_fits g c m (Constant k) = sure
 
 compared_fits : {δ : ℕ} {σ ρ : Bindings} {p p' : Place} → Within δ σ ρ → (c : Comparison) (w : Operand) → Fits δ p p'
     → Agrees (compare_reading c (value_read p) (operand_read σ w)) (compare c (value_at p') (value_of ρ w))
@@ -143,13 +151,13 @@ pub sound : (δ : ℕ) (T : List Row) (φ : Formula) (d : ℕ) {σ ρ : Bindings
 unfolding holds reading
 sound δ T (negation φ) d g = agrees_not (sound δ T φ d g)
 sound δ T (joined c φ ψ) d g = agrees_connect c (sound δ T φ d g) (sound δ T ψ d g)
-sound δ T (quantified q roots n φ) d {σ} {ρ} g =
+sound δ T (quantified q Roots n φ) d {σ} {ρ} g =
     roots_agree q (λ p. reading φ (owned δ T) (suc d) (bind d p σ)) (λ r. holds φ T (suc d) (bind d (bound r) ρ))
     (select (λ r. root r && named n r) (owned δ T)) (select (λ r. root r && named n r) T)
     (λ r m. select_in (λ r. root r && named n r) (select_out (of_device δ) T (select_out (λ r. root r && named n r) (owned δ T) m).0).0 (select_out (λ r. root r && named n r) (owned δ T) m).1)
     (λ r m. sound δ T φ (suc d) (bind_within d (own (eqb-true r.device δ (select_out (of_device δ) T (select_out (λ r. root r && named n r) (owned δ T) m).0).1)) g))
     (λ r. sound δ T φ (suc d) (bind_within d elsewhere g))
-sound δ T (quantified q (under v) n φ) d {σ} {ρ} g =
+sound δ T (quantified q (Under v) n φ) d {σ} {ρ} g =
     under_agrees δ n T q (λ p. reading φ (owned δ T) (suc d) (bind d p σ)) (λ r. holds φ T (suc d) (bind d (bound r) ρ))
     (λ r. sound δ T φ (suc d) (bind_within d elsewhere g)) (λ r e. sound δ T φ (suc d) (bind_within d (own e) g)) (g v)
 sound δ T (compared c v w) d g = compared_fits g c w (g v)

@@ -13,7 +13,7 @@ use Rattle.tables.specs.Words.{entry_at, entry_count, rows}
 use Rattle.tables.specs.Rules.{one, to_parameter, check_rule}
 use Rattle.tables.specs.Tables.{check_table}
 use Rattle.tables.specs.declared.Entry.{Entry}
-use Rattle.tables.specs.declared.Answer.TheVariants.{Done}
+use Rattle.tables.specs.Answers.{Done}
 use Rattle.tables.proofs.Answers.{and_then_passed}
 use Rattle.templates.specs.Templates.{filled_entry, filled, fill_answer, written}
 use Rattle.templates.proofs.Filling.{filled_other, filled_entry_lem, filled_length}

@@ -14,8 +14,8 @@ use Rattle.tables.specs.Answers.{is_done, and_then, unless, fitting, output}
 use Rattle.base.proofs.Bools.{either}
 use Rattle.tables.specs.Words.{row_count, rows}
 use Rattle.tables.specs.Tables.{check_table, accepted_table}
-use Rattle.tables.specs.declared.Answer.{Answer}
-use Rattle.tables.specs.declared.Answer.TheVariants.{Done}
+use Rattle.tables.specs.Answers.{Answer}
+use Rattle.tables.specs.Answers.{Done}
 use Rattle.tables.proofs.Answers.{and_then_first, and_then_next}
 use Rattle.sets.specs.Sets.{check_set, accepted_set}
 use Rattle.plans.specs.Plans.{step_words, step_at, steps_from, step_count, steps_of, step_place, RowsAfter}
@@ -28,6 +28,7 @@ use Rattle.logic.specs.Trial.{State, given, Outcome, try_steps, begin_answer, no
 use Rattle.logic.proofs.Calls.{verdict_count, verdicts_are, bytes_are}
 use Rattle.logic.proofs.Demand.{demand_3}
 use Rattle.logic.proofs.Runs.{accepted_after, step_passed, Does, Goes, goes, runs_through}
+use Rattle.tables.specs.declared.Fault.TheVariants.{ShortOutput}
 
 -- ---- the first k steps of a plan
 module _ (steps : List ℕ) (k : ℕ) (h : step_words * k ≤ length steps) where
@@ -114,7 +115,7 @@ module _ (rules counts pool steps : List ℕ) where
   set_writes t set_ok ok out h =
       let v : List ℕ = verdict_bytes Fs (rows t) in
       let long : length v ≡ n = verdict_count rules counts (rows t) in
-      let fit : fitting v (length out) ≡ Done (length v) = ap (λ (b : Bool). unless b 17 (Done (length v))) (le-leb (length v) (length out) (omega (arith, long, h))) in (
+      let fit : fitting v (length out) ≡ Done (length v) = ap (λ (b : Bool). unless b ShortOutput (Done (length v))) (le-leb (length v) (length out) (omega (arith, long, h))) in (
         verdicts_are rules counts t set_ok ok (length out) ∙ fit ∙ ap Done long,
         bytes_are rules counts t set_ok ok out ∙ ap (λ (a : Answer). output a v out) fit ∙ ap (λ (m : ℕ). v ++ drop m out) long,
       )
@@ -123,11 +124,11 @@ module _ (rules counts pool steps : List ℕ) where
 pub begun_set : (rules counts pool : List ℕ) (words : ℕ) → is_done (begin_answer rules counts pool words) ≡ true → accepted_set rules counts ≡ true
 unfolding begin_answer
 begun_set rules counts pool words begun =
-    and_then_first (check_set rules counts) (and_then (check_table pool) (unless (leb (length pool) words) 17 (Done 0))) begun
+    and_then_first (check_set rules counts) (and_then (check_table pool) (unless (leb (length pool) words) ShortOutput (Done 0))) begun
 
 module _ (rules counts pool steps : List ℕ) (words bytes : ℕ) (begun : is_done (begin_answer rules counts pool words) ≡ true) where
   abbrev behind : Answer
-  behind = and_then (check_table pool) (unless (leb (length pool) words) 17 (Done 0))
+  behind = and_then (check_table pool) (unless (leb (length pool) words) ShortOutput (Done 0))
 
   set_ok : accepted_set rules counts ≡ true
   set_ok = begun_set rules counts pool words begun

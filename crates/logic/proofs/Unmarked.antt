@@ -14,7 +14,7 @@ use Rattle.tables.specs.Words.{row_at, row_count, rows}
 use Rattle.tables.specs.Rules.{one, accepted_rule}
 use Rattle.tables.specs.Tables.{root, is_parent, same_row, accepted_table}
 use Rattle.tables.specs.declared.Row.{Row}
-use Rattle.tables.specs.declared.Answer.TheVariants.{Done}
+use Rattle.tables.specs.Answers.{Done}
 use Rattle.tables.proofs.Accepted.{ordered, same_place, has_parent}
 use Rattle.tables.proofs.Ordered.{root_depth, child_depth}
 use Rattle.tables.proofs.RowLists.{row_in, row_out}

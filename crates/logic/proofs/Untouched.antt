@@ -10,7 +10,10 @@ use Rattle.base.proofs.Bools.{either, and_left, and_right, or_left, or_right}
 use Rattle.base.proofs.Lists.{any_at, concat_map_in, select_in, select_out}
 use Rattle.tables.specs.Tables.{is_parent}
 use Rattle.tables.specs.declared.Row.{Row}
-use Rattle.logic.specs.Formulas.{Formula, negation, joined, quantified, compared, Quantifier, Over, roots, under}
+use Rattle.logic.specs.Formulas.{Formula, negation, joined, quantified, compared}
+use Rattle.tables.specs.declared.Quantifier.{Quantifier}
+use Rattle.tables.specs.declared.Over.{Over}
+use Rattle.tables.specs.declared.Over.TheVariants.{Roots, Under}
 use Rattle.logic.specs.Verdict.{Place, nothing, bound, Bindings, none_bound, bind, named, hangs, ranges, connect, both, fold, holds, verdict}
 use Rattle.logic.specs.Parts.{Chains, no_chains, chains_with, reach, reached_in, reached}
 
@@ -37,10 +40,10 @@ module _ (r : Row) (D T T' : List Row) (alike : Alike r T T') (inside : (s : Row
 
   -- a quantifier reaches the rows that it ranges over
   ranges_reach : (o : Over) (n d : ℕ) (K : Chains) (b : Bindings) → Held K b → (s : Row) → ranges o n b s ≡ true → any (λ x. true) (reach D o n d K s) ≡ true
-  ranges_reach roots n d K b held s e = rw e
-  ranges_reach (under v) n d K b held s e = go (b v) refl e
+  ranges_reach Roots n d K b held s e = rw e
+  ranges_reach (Under v) n d K b held s e = go (b v) refl e
     where
-      go : (p : Place) → b v ≡ p → (hangs p s && named n s) ≡ true → any (λ x. true) (reach D (under v) n d K s) ≡ true
+      go : (p : Place) → b v ≡ p → (hangs p s && named n s) ≡ true → any (λ x. true) (reach D (Under v) n d K s) ≡ true
       go nothing q h = absurd (true≢false (sym h))
       go (bound p) q h =
           let k = held v p q in

@@ -14,7 +14,11 @@ use Rattle.base.proofs.Lists.{select_in, all_at, concat_map_in, when_in}
 use Rattle.tables.specs.Tables.{root, is_parent}
 use Rattle.tables.specs.declared.Row.{Row}
 use Rattle.tables.proofs.Accepted.{parent_device}
-use Rattle.logic.specs.Formulas.{Formula, negation, joined, quantified, compared, Quantifier, Connective, Over, roots, under}
+use Rattle.logic.specs.Formulas.{Formula, negation, joined, quantified, compared}
+use Rattle.tables.specs.declared.Quantifier.{Quantifier}
+use Rattle.tables.specs.declared.Connective.{Connective}
+use Rattle.tables.specs.declared.Over.{Over}
+use Rattle.tables.specs.declared.Over.TheVariants.{Roots, Under}
 use Rattle.logic.specs.Verdict.{Place, nothing, bound, Bindings, bind, none_bound, connect, settled, named, hangs, ranges, holds}
 use Rattle.logic.specs.Reading.{reads, reading}
 use Rattle.logic.specs.Parts.{Chains, chains_with, reach, spare_in}
@@ -71,7 +75,7 @@ module _ (T : List Row) (keep : Row → Bool) where
     pub attached : Attached r
     pub chain : (δ : ℕ) → r.device ≡ δ → (σ : Bindings) × (σ ∈ reach (owned δ T) o n d (K (owned δ T)) r) × Within δ σ (bind d (bound r) ρ)
 
-  met_under : (n d v : ℕ) (K : List Row → Chains) (ρ : Bindings) (r : Row) (s : Place) → Good K ρ v s → (hangs s r && named n r) ≡ true → Met (under v) n d K ρ r
+  met_under : (n d v : ℕ) (K : List Row → Chains) (ρ : Bindings) (r : Row) (s : Place) → Good K ρ v s → (hangs s r && named n r) ≡ true → Met (Under v) n d K ρ r
   met_under n d v K ρ r nothing h e = absurd (false≢true e)
   met_under n d v K ρ r (bound p) h e =
       let c : is_parent r p ≡ true = and_left (is_parent r p) (named n r) e in
@@ -88,11 +92,11 @@ module _ (T : List Row) (keep : Row → Bool) where
       }
 
   met : (o : Over) (n d : ℕ) (K : List Row → Chains) (ρ : Bindings) → Fine d K ρ → (r : Row) → ranges o n ρ r ≡ true → Met o n d K ρ r
-  met roots n d K ρ h r e = record {
+  met Roots n d K ρ h r e = record {
     attached = inl (and_left (root r) (named n r) e);
     chain = λ δ k. (bind d (bound r) none_bound, when_in (root r && named n r) e (Memᴰ.head refl), bind_within d (own k) (λ v. elsewhere));
   }
-  met (under v) n d K ρ h r e = met_under n d v K ρ r (ρ v) (h.good v) e
+  met (Under v) n d K ρ h r e = met_under n d v K ρ r (ρ v) (h.good v) e
 
   -- the bindings stay fine when a kept row of the range is bound
   good_at : (o : Over) (n d : ℕ) (K : List Row → Chains) (ρ : Bindings) (r : Row) → r ∈ T → keep r ≡ true → Met o n d K ρ r → ρ d ≡ nothing

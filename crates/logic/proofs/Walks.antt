@@ -9,7 +9,8 @@ use Rattle.base.specs.Lists.{put, select}
 use Rattle.base.proofs.Lists.{select_append}
 use Rattle.tables.specs.Words.{row_at, rows_from}
 use Rattle.tables.specs.declared.Row.{Row}
-use Rattle.logic.specs.Formulas.{Quantifier, every, some}
+use Rattle.tables.specs.declared.Quantifier.{Quantifier}
+use Rattle.tables.specs.declared.Quantifier.TheVariants.{Every, Exists}
 use Rattle.logic.specs.Verdict.{settled, both, fold}
 
 -- ---- rows by their numbers
@@ -63,39 +64,39 @@ module _ (p : Row → Bool) where
 
 -- ---- the verdict over them
 pub both_settled : (q : Quantifier) (x y : Bool) → x ≡ settled q → both q x y ≡ y
-both_settled every x y e = rw e
-both_settled some x y e = rw e
+both_settled Every x y e = rw e
+both_settled Exists x y e = rw e
 
 pub both_decided : (q : Quantifier) (x y : Bool) → (x ≡ settled q → ⊥) → both q x y ≡ x
-both_decided every true y h = absurd (h refl)
-both_decided every false y h = refl
-both_decided some true y h = refl
-both_decided some false y h = absurd (h refl)
+both_decided Every true y h = absurd (h refl)
+both_decided Every false y h = refl
+both_decided Exists true y h = refl
+both_decided Exists false y h = absurd (h refl)
 
 both_last : (q : Quantifier) (x : Bool) → both q x (settled q) ≡ x
-both_last every true = refl
-both_last every false = refl
-both_last some true = refl
-both_last some false = refl
+both_last Every true = refl
+both_last Every false = refl
+both_last Exists true = refl
+both_last Exists false = refl
 
 both_assoc : (q : Quantifier) (x y z : Bool) → both q (both q x y) z ≡ both q x (both q y z)
-both_assoc every true y z = refl
-both_assoc every false y z = refl
-both_assoc some true y z = refl
-both_assoc some false y z = refl
+both_assoc Every true y z = refl
+both_assoc Every false y z = refl
+both_assoc Exists true y z = refl
+both_assoc Exists false y z = refl
 
 -- where both are settled, so is each
 pub settled_left : (q : Quantifier) (x y : Bool) → both q x y ≡ settled q → x ≡ settled q
-settled_left every true y e = refl
-settled_left every false y e = e
-settled_left some true y e = e
-settled_left some false y e = refl
+settled_left Every true y e = refl
+settled_left Every false y e = e
+settled_left Exists true y e = e
+settled_left Exists false y e = refl
 
 pub settled_right : (q : Quantifier) (x y : Bool) → both q x y ≡ settled q → y ≡ settled q
-settled_right every true y e = e
-settled_right every false y e = absurd (false≢true e)
-settled_right some true y e = absurd (true≢false e)
-settled_right some false y e = e
+settled_right Every true y e = e
+settled_right Every false y e = absurd (false≢true e)
+settled_right Exists true y e = absurd (true≢false e)
+settled_right Exists false y e = e
 
 module _ (q : Quantifier) (f : Row → Bool) where
   pub fold_append : (xs ys : List Row) → fold q f (xs ++ ys) ≡ both q (fold q f xs) (fold q f ys)

@@ -8,13 +8,14 @@ use Rattle.tables.specs.Words.{whole, row_words, row_at, row_count, rows}
 use Rattle.tables.specs.Tables.{same_row, is_parent, accepted_table}
 use Rattle.tables.specs.Joining.{join_tables, join_answer, join_pool}
 use Rattle.tables.specs.declared.Row.{Row}
-use Rattle.tables.specs.declared.Answer.{Answer}
-use Rattle.tables.specs.declared.Answer.TheVariants.{Refused}
+use Rattle.tables.specs.Answers.{Answer}
+use Rattle.tables.specs.Answers.{Refused}
 use Rattle.sets.specs.Sets.{rules_of, accepted_set}
 use Rattle.logic.specs.Formulas.{Formula, formulas_of}
 use Rattle.logic.specs.Verdict.{verdict_answer, set_verdicts_answer, set_verdicts_out}
 use Rattle.logic.specs.Marks.{marks_out}
 use Rattle.logic.specs.Parts.{spare_for_each, part_of, words_of, set_part_answer, set_part_out}
+use Rattle.tables.specs.declared.Fault.TheVariants.{ShortOutput}
 
 -- a device is all its rows, even if it has none; with it stand the cut that it sends, and the number of words in the buffer in which
 -- that cut is joined
@@ -94,7 +95,7 @@ pub record Given (rules counts : List ℕ) (ds : List Device) : Type 0 where
 -- ---- what is claimed
 -- accepted, or refused with 17
 abbrev pub OnlyShort : Answer → Type 0
-OnlyShort a = (is_done a ≡ true) ⊎ (a ≡ Refused 17 0)
+OnlyShort a = (is_done a ≡ true) ⊎ (a ≡ Refused ShortOutput 0)
 
 -- joining in place, in a buffer that begins with the table, answers so, and the buffer then begins with the table left
 abbrev pub InPlace : List ℕ → List ℕ → Device → Type 0

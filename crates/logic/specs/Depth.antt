@@ -5,9 +5,10 @@ use Rattle.base.specs.Lists.{◌∈◌}
 use Rattle.tables.specs.Words.{row_at, row_count, rows}
 use Rattle.tables.specs.Tables.{check_table, accepted_table}
 use Rattle.tables.specs.declared.Row.{Row}
-use Rattle.tables.specs.declared.Answer.TheVariants.{Refused}
+use Rattle.tables.specs.Answers.{Refused}
 use Rattle.logic.specs.Parts.{ancestors}
 use Rattle.logic.specs.Demand.{Under}
+use Rattle.tables.specs.declared.Fault.TheVariants.{Depth}
 
 -- the list has the rows of D that r hangs under, each once
 pub record HangsUnder (D : List Row) (r : Row) (xs : List Row) : Type 0 where
@@ -35,4 +36,4 @@ pub record FirstWrong (t : List ℕ) (i : ℕ) : Type 0 where
 -- the claim: an accepted table has right depths, and 26 is given at the first row that has not
 pub record DepthCounts : Type 0 where
   pub accepted : (t : List ℕ) → accepted_table t ≡ true → (i : ℕ) → i < row_count t → DeepAt t i
-  pub refused : (t : List ℕ) (i : ℕ) → check_table t ≡ Refused 26 i → FirstWrong t i
+  pub refused : (t : List ℕ) (i : ℕ) → check_table t ≡ Refused Depth i → FirstWrong t i

@@ -1,7 +1,8 @@
 -- 02, wish 9: a reading over roots can't come out both ways. Assumes nothing.
 use Rattle.std.specs.Prelude.{ℕ, suc, ◌≡◌, Bool, false, ◌&&◌, List}
 use Rattle.tables.specs.declared.Row.{Row}
-use Rattle.logic.specs.Formulas.{Formula, Quantifier}
+use Rattle.logic.specs.Formulas.{Formula}
+use Rattle.tables.specs.declared.Quantifier.{Quantifier}
 use Rattle.logic.specs.Verdict.{Place, nothing, bound, Bindings, bind}
 use Rattle.logic.specs.Reading.{Reading, certain, first_test, second_test, reading}
 

@@ -3,28 +3,16 @@ use Rattle.std.specs.Prelude.{ℕ, zero, suc, ◌-◌, List, [], ◌∷◌, map,
 use Rattle.tables.specs.Words.{entry_at, entry_count}
 use Rattle.tables.specs.declared.Entry.{Entry}
 use Rattle.sets.specs.Sets.{rules_of}
-
--- kinds 5 and 6: for every, for some
-pub data Quantifier : Type 0 where
-  every some : Quantifier
-
--- kinds 2, 3 and 4
-pub data Connective : Type 0 where
-  and or implies : Connective
-
--- kinds 7, 8 and 9
-pub data Comparison : Type 0 where
-  equal less at_most : Comparison
-
--- what a quantifier ranges over: roots, or the rows whose parent is a variable's row
-pub data Over : Type 0 where
-  roots : Over
-  under : ℕ → Over
-
--- what a variable is compared with
-pub data Operand : Type 0 where
-  variable : ℕ → Operand
-  constant : ℕ → Operand
+use Rattle.tables.specs.declared.Quantifier.{Quantifier}
+use Rattle.tables.specs.declared.Quantifier.TheVariants.{Every, Exists}
+use Rattle.tables.specs.declared.Connective.{Connective}
+use Rattle.tables.specs.declared.Connective.TheVariants.{And, Or, Implies}
+use Rattle.tables.specs.declared.Comparison.{Comparison}
+use Rattle.tables.specs.declared.Comparison.TheVariants.{Equal, Less, AtMost}
+use Rattle.tables.specs.declared.Over.{Over}
+use Rattle.tables.specs.declared.Over.TheVariants.{Roots, Under}
+use Rattle.tables.specs.declared.Operand.{Operand}
+use Rattle.tables.specs.declared.Operand.TheVariants.{Variable, Constant}
 
 -- a quantifier binds in its body the variable whose number is the count of quantifiers around it
 pub data Formula : Type 0 where
@@ -35,17 +23,17 @@ pub data Formula : Type 0 where
 
 -- b of a quantifier: 0 roots, else 1 + variable of the parent
 abbrev pub over_of : ℕ → Over
-over_of zero = roots
-over_of (suc v) = under v
+over_of zero = Roots
+over_of (suc v) = Under v
 
 -- b and c of a comparison: 0 variable, 1 constant, and that variable or constant
 abbrev pub operand_of : ℕ → ℕ → Operand
-operand_of zero x = variable x
-operand_of (suc b) x = constant x
+operand_of zero x = Variable x
+operand_of (suc b) x = Constant x
 
 -- stands where no accepted rule has an entry
 abbrev pub no_formula : Formula
-no_formula = compared equal 0 (variable 0)
+no_formula = compared Equal 0 (Variable 0)
 
 -- an entry, over the formulas of its children, where `operand` reads b and c of a comparison: one line for each kind
 abbrev pub build : (ℕ → ℕ → Operand) → Entry → (ℕ → Formula) → Formula
@@ -53,14 +41,14 @@ build operand e child =
     get_or
     (no_formula
     ∷ negation (child e.a)
-    ∷ joined and (child e.a) (child e.b)
-    ∷ joined or (child e.a) (child e.b)
-    ∷ joined implies (child e.a) (child e.b)
-    ∷ quantified every (over_of e.b) e.c (child e.a)
-    ∷ quantified some (over_of e.b) e.c (child e.a)
-    ∷ compared equal e.a (operand e.b e.c)
-    ∷ compared less e.a (operand e.b e.c)
-    ∷ compared at_most e.a (operand e.b e.c)
+    ∷ joined And (child e.a) (child e.b)
+    ∷ joined Or (child e.a) (child e.b)
+    ∷ joined Implies (child e.a) (child e.b)
+    ∷ quantified Every (over_of e.b) e.c (child e.a)
+    ∷ quantified Exists (over_of e.b) e.c (child e.a)
+    ∷ compared Equal e.a (operand e.b e.c)
+    ∷ compared Less e.a (operand e.b e.c)
+    ∷ compared AtMost e.a (operand e.b e.c)
     ∷ []) e.kind no_formula
 
 -- the formulas of n entries from number i on: a child's number exceeds its parent's

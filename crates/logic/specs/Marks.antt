@@ -6,10 +6,17 @@ use Rattle.tables.specs.Words.{rows, row_count}
 use Rattle.tables.specs.Rules.{one, check_rule}
 use Rattle.tables.specs.Tables.{same_row, check_table}
 use Rattle.tables.specs.declared.Row.{Row}
-use Rattle.tables.specs.declared.Answer.{Answer}
-use Rattle.tables.specs.declared.Answer.TheVariants.{Done}
-use Rattle.logic.specs.Formulas.{Formula, negation, joined, quantified, compared, Quantifier, every, some, Connective, and, or, implies, Operand, variable, constant, formula}
+use Rattle.tables.specs.Answers.{Answer}
+use Rattle.tables.specs.Answers.{Done}
+use Rattle.logic.specs.Formulas.{Formula, negation, joined, quantified, compared, formula}
+use Rattle.tables.specs.declared.Quantifier.{Quantifier}
+use Rattle.tables.specs.declared.Quantifier.TheVariants.{Every, Exists}
+use Rattle.tables.specs.declared.Connective.{Connective}
+use Rattle.tables.specs.declared.Connective.TheVariants.{And, Or, Implies}
+use Rattle.tables.specs.declared.Operand.{Operand}
+use Rattle.tables.specs.declared.Operand.TheVariants.{Variable, Constant}
 use Rattle.logic.specs.Verdict.{Place, nothing, bound, Bindings, none_bound, bind, ranges, fold, holds, verdict}
+use Rattle.tables.specs.declared.Fault.TheVariants.{ShortOutput}
 
 -- ---- the reason of an entry with its verdict, as the rows that it marks
 -- comparison: the row or rows of its variables
@@ -18,19 +25,19 @@ row_of nothing = []
 row_of (bound r) = r ∷ []
 
 abbrev pub rows_of : Bindings → Operand → List Row
-rows_of b (variable v) = row_of (b v)
-rows_of b (constant k) = []
+rows_of b (Variable v) = row_of (b v)
+rows_of b (Constant k) = []
 
 -- the left side alone decides: and false, or true, implies true by a false left side
 abbrev pub left_decides : Connective → Bool → Bool
-left_decides and a = not a
-left_decides or a = a
-left_decides implies a = not a
+left_decides And a = not a
+left_decides Or a = a
+left_decides Implies a = not a
 
 abbrev pub right_decides : Connective → Bool → Bool
-right_decides and b = not b
-right_decides or b = b
-right_decides implies b = b
+right_decides And b = not b
+right_decides Or b = b
+right_decides Implies b = b
 
 -- the first side that decides, else both sides
 abbrev pub because : Connective → Bool → Bool → List Row → List Row → List Row
@@ -38,8 +45,8 @@ because c a b x y = cond (left_decides c a) x (cond (right_decides c b) y (x ++ 
 
 -- the body's value at a row decides the quantifier: false for kind 5, true for kind 6
 abbrev pub decides : Quantifier → Bool → Bool
-decides every a = not a
-decides some a = a
+decides Every a = not a
+decides Exists a = a
 
 -- the first row that decides
 abbrev pub first_deciding : Quantifier → (Row → Bool) → List Row → List Row
@@ -70,7 +77,7 @@ mark_bytes F T = map (λ r. one (marked F T r)) T
 unfoldable pub marks_answer : List ℕ → List ℕ → ℕ → Answer
 marks_answer rule pool room =
     and_then (check_rule rule) (and_then (check_table pool)
-    (unless (leb (row_count pool) room) 17
+    (unless (leb (row_count pool) room) ShortOutput
     (Done (one (verdict (formula rule) (rows pool))))))
 
 unfoldable pub marks_out : List ℕ → List ℕ → List ℕ → List ℕ

@@ -3,8 +3,10 @@ use Rattle.std.specs.Prelude.{ℕ, suc, ◌≤◌, ◌<◌, max, ◌≡◌, true
 use Rattle.tables.specs.Answers.{is_done}
 use Rattle.tables.specs.Words.{entry_at}
 use Rattle.tables.specs.Rules.{nesting_limit, is_quantifier, around, check_entries}
-use Rattle.tables.specs.declared.Answer.TheVariants.{Refused}
-use Rattle.logic.specs.Formulas.{Formula, negation, joined, quantified, compared, Operand, formula_by}
+use Rattle.tables.specs.Answers.{Refused}
+use Rattle.logic.specs.Formulas.{Formula, negation, joined, quantified, compared, formula_by}
+use Rattle.tables.specs.declared.Operand.{Operand}
+use Rattle.tables.specs.declared.Fault.TheVariants.{Nesting}
 
 -- how many quantifiers of a formula stand around one another at most
 unfoldable pub levels : Formula → ℕ
@@ -17,10 +19,10 @@ levels (compared c v w) = 0
 pub record Limited (operand : ℕ → ℕ → Operand) (most : ℕ) (rule : List ℕ) : Type 0 where
   -- in an accepted rule no more stand around one another than the limit, and in one refused with 6 more do
   pub accepted : is_done (check_entries most rule) ≡ true → levels (formula_by operand rule 0) ≤ nesting_limit
-  pub refused : (p : ℕ) → check_entries most rule ≡ Refused 6 p → nesting_limit < levels (formula_by operand rule 0)
+  pub refused : (p : ℕ) → check_entries most rule ≡ Refused Nesting p → nesting_limit < levels (formula_by operand rule 0)
   -- 6 is given at a quantifier with as many around it as the limit
-  pub at_quantifier : (p : ℕ) → check_entries most rule ≡ Refused 6 p → is_quantifier (entry_at rule p) ≡ true
-  pub as_many_around : (p : ℕ) → check_entries most rule ≡ Refused 6 p → around rule p ≡ nesting_limit
+  pub at_quantifier : (p : ℕ) → check_entries most rule ≡ Refused Nesting p → is_quantifier (entry_at rule p) ≡ true
+  pub as_many_around : (p : ℕ) → check_entries most rule ≡ Refused Nesting p → around rule p ≡ nesting_limit
 
 -- the claim: so it is for every run of words
 abbrev pub LevelsLimited : Type 0

@@ -7,12 +7,15 @@ use Rattle.tables.specs.Words.{columns_of, rows, row_at, row_count}
 use Rattle.tables.specs.Rules.{check_rule}
 use Rattle.tables.specs.Tables.{root, is_parent, check_table}
 use Rattle.tables.specs.declared.Row.{Row}
-use Rattle.tables.specs.declared.Answer.{Answer}
-use Rattle.tables.specs.declared.Answer.TheVariants.{Done}
+use Rattle.tables.specs.Answers.{Answer}
+use Rattle.tables.specs.Answers.{Done}
 use Rattle.sets.specs.Sets.{check_set}
-use Rattle.logic.specs.Formulas.{Formula, negation, joined, quantified, compared, Over, roots, under, formula, formulas_of}
+use Rattle.logic.specs.Formulas.{Formula, negation, joined, quantified, compared, formula, formulas_of}
+use Rattle.tables.specs.declared.Over.{Over}
+use Rattle.tables.specs.declared.Over.TheVariants.{Roots, Under}
 use Rattle.logic.specs.Verdict.{Bindings, bind, bound, none_bound, named, settled}
 use Rattle.logic.specs.Reading.{reading, reads}
+use Rattle.tables.specs.declared.Fault.TheVariants.{Mode, OtherDevice, ShortOutput}
 
 -- ---- reaching: for each variable bound so far and each row, the bindings along the chain by which the variable's quantifier
 -- reaches the row; none where it does not
@@ -28,8 +31,8 @@ chains_with x f K v = cond (eqb v x) f (K v)
 -- a quantifier reaches a row that passes its name test and is a root, or whose parent is reached by the quantifier that binds the variable
 -- named in b. The variables along that chain are bound to the row and its ancestors, and all others are elsewhere.
 abbrev pub reach : List Row → Over → ℕ → ℕ → Chains → Row → List Bindings
-reach D roots n d K r = when (root r && named n r) (bind d (bound r) none_bound ∷ [])
-reach D (under v) n d K r = when (named n r) (map (bind d (bound r)) (concat_map (K v) (select (is_parent r) D)))
+reach D Roots n d K r = when (root r && named n r) (bind d (bound r) none_bound ∷ [])
+reach D (Under v) n d K r = when (named n r) (map (bind d (bound r)) (concat_map (K v) (select (is_parent r) D)))
 
 -- some quantifier reaches the row
 unfoldable pub reached_in : Formula → List Row → ℕ → Chains → Row → Bool
@@ -102,9 +105,9 @@ unfoldable pub send_answer : Answer → List Formula → List ℕ → ℕ → �
 send_answer checked Fs table mode room =
     let sent = part_of Fs mode (rows table) in
     and_then checked (and_then (check_table table)
-    (unless (leb 1 mode && leb mode 3) 13
-    (unless_any (other_device table) 14 (row_count table)
-    (unless (leb (length (words_of sent)) room) 17
+    (unless (leb 1 mode && leb mode 3) Mode
+    (unless_any (other_device table) OtherDevice (row_count table)
+    (unless (leb (length (words_of sent)) room) ShortOutput
     (Done (length sent))))))
 
 unfoldable pub send_out : Answer → List Formula → List ℕ → ℕ → List ℕ → List ℕ

@@ -2,7 +2,16 @@
 use Rattle.std.specs.Prelude.{ℕ, suc, Bool, true, false, not, cond, List, [], ◌∷◌}
 use Rattle.base.specs.Lists.{select, any}
 use Rattle.tables.specs.declared.Row.{Row}
-use Rattle.logic.specs.Formulas.{Formula, negation, joined, quantified, compared, Quantifier, every, some, Connective, and, or, implies, Comparison, Over, roots, under, Operand, variable, constant}
+use Rattle.logic.specs.Formulas.{Formula, negation, joined, quantified, compared}
+use Rattle.tables.specs.declared.Quantifier.{Quantifier}
+use Rattle.tables.specs.declared.Quantifier.TheVariants.{Every, Exists}
+use Rattle.tables.specs.declared.Connective.{Connective}
+use Rattle.tables.specs.declared.Connective.TheVariants.{And, Or, Implies}
+use Rattle.tables.specs.declared.Comparison.{Comparison}
+use Rattle.tables.specs.declared.Over.{Over}
+use Rattle.tables.specs.declared.Over.TheVariants.{Roots, Under}
+use Rattle.tables.specs.declared.Operand.{Operand}
+use Rattle.tables.specs.declared.Operand.TheVariants.{Variable, Constant}
 use Rattle.logic.specs.Verdict.{Place, nothing, bound, Bindings, bind, compare, ranges, settled}
 
 -- true, false or open; a place that is nothing stands for elsewhere
@@ -29,9 +38,9 @@ and_reading undecided (certain true) = undecided
 and_reading undecided undecided = undecided
 
 abbrev pub connect_reading : Connective → Reading → Reading → Reading
-connect_reading and x y = and_reading x y
-connect_reading or x y = not_reading (and_reading (not_reading x) (not_reading y))
-connect_reading implies x y = not_reading (and_reading x (not_reading y))
+connect_reading And x y = and_reading x y
+connect_reading Or x y = not_reading (and_reading (not_reading x) (not_reading y))
+connect_reading Implies x y = not_reading (and_reading x (not_reading y))
 
 -- ---- a comparison that touches an elsewhere variable is open
 pub data Value : Type 0 where
@@ -43,8 +52,8 @@ value_read nothing = unknown
 value_read (bound r) = known r.value
 
 abbrev pub operand_read : Bindings → Operand → Value
-operand_read b (variable v) = value_read (b v)
-operand_read b (constant k) = known k
+operand_read b (Variable v) = value_read (b v)
+operand_read b (Constant k) = known k
 
 abbrev pub compare_reading : Comparison → Value → Value → Reading
 compare_reading c (known m) (known n) = certain (compare c m n)
@@ -53,8 +62,8 @@ compare_reading c unknown y = undecided
 
 -- ---- a quantifier; `body p` is its body's reading with its own variable at p, and `own` are the rows that it ranges over
 abbrev pub both_reading : Quantifier → Reading → Reading → Reading
-both_reading every x y = connect_reading and x y
-both_reading some x y = connect_reading or x y
+both_reading Every x y = connect_reading And x y
+both_reading Exists x y = connect_reading Or x y
 
 -- under a bound row: kind 5 is false if some row's body is false, true if all are true, else open
 abbrev pub under_bound : Quantifier → (Place → Reading) → List Row → Reading
@@ -81,8 +90,8 @@ under_place q nothing body own = under_elsewhere q body
 under_place q (bound p) body own = under_bound q body own
 
 abbrev pub quantify : Quantifier → Over → Bindings → (Place → Reading) → List Row → Reading
-quantify q roots b body own = over_roots q body own
-quantify q (under v) b body own = under_place q (b v) body own
+quantify q Roots b body own = over_roots q body own
+quantify q (Under v) b body own = under_place q (b v) body own
 
 -- ---- the reading of a formula on the device's rows D, with d variables bound or elsewhere
 unfoldable pub reading : Formula → List Row → ℕ → Bindings → Reading

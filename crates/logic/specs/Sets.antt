@@ -5,12 +5,14 @@ use Rattle.tables.specs.Answers.{and_then, unless, value, output}
 use Rattle.tables.specs.Words.{whole, entry_words, entry_count}
 use Rattle.tables.specs.Rules.{check_rule}
 use Rattle.tables.specs.declared.Row.{Row}
-use Rattle.tables.specs.declared.Answer.TheVariants.{Done}
+use Rattle.tables.specs.Answers.{Done}
 use Rattle.sets.specs.Sets.{rules_of, check_set}
-use Rattle.logic.specs.Formulas.{Formula, joined, and}
+use Rattle.logic.specs.Formulas.{Formula, joined}
+use Rattle.tables.specs.declared.Connective.TheVariants.{And}
 use Rattle.logic.specs.Verdict.{verdict, verdict_answer, set_verdicts_answer, set_verdicts_out}
 use Rattle.logic.specs.Parts.{reached, spare, reached_by_any, spare_for_each, part_of, part_answer, part_out, set_part_answer, set_part_out}
 use Rattle.logic.specs.Demand.{Cut}
+use Rattle.tables.specs.declared.Fault.TheVariants.{ShortOutput}
 
 -- ---- one rule is a set of one, with its own count
 abbrev pub own_count : List ℕ → List ℕ
@@ -22,7 +24,7 @@ pub record OfOne (rule : List ℕ) : Type 0 where
   pub rules_are : rules_of rule (own_count rule) ≡ rule ∷ []
   pub checked : check_set rule (own_count rule) ≡ and_then (check_rule rule) (Done 1)
   pub verdicts : (pool : List ℕ) (room : ℕ)
-      → set_verdicts_answer rule (own_count rule) pool room ≡ and_then (verdict_answer rule pool) (unless (leb 1 room) 17 (Done 1))
+      → set_verdicts_answer rule (own_count rule) pool room ≡ and_then (verdict_answer rule pool) (unless (leb 1 room) ShortOutput (Done 1))
   pub bytes : (pool out : List ℕ) → set_verdicts_out rule (own_count rule) pool out
       ≡ output (set_verdicts_answer rule (own_count rule) pool (length out)) (value (verdict_answer rule pool) ∷ []) out
   pub part : (table : List ℕ) (mode room : ℕ) → set_part_answer rule (own_count rule) table mode room ≡ part_answer rule table mode room
@@ -50,7 +52,7 @@ CutForEach =
 -- ---- a set asks for the rows that its rules ask for in one, joined by and
 abbrev pub conjunction : Formula → List Formula → Formula
 conjunction F [] = F
-conjunction F (G ∷ Gs) = joined and F (conjunction G Gs)
+conjunction F (G ∷ Gs) = joined And F (conjunction G Gs)
 
 abbrev pub AsConjunction : Type 0
 AsConjunction =

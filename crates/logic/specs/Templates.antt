@@ -5,14 +5,16 @@ use Rattle.tables.specs.Words.{rows}
 use Rattle.tables.specs.Rules.{one, to_parameter}
 use Rattle.tables.specs.Tables.{check_table}
 use Rattle.tables.specs.declared.Row.{Row}
-use Rattle.tables.specs.declared.Answer.TheVariants.{Done}
+use Rattle.tables.specs.Answers.{Done}
 use Rattle.templates.specs.Templates.{parameter, fill_answer, written}
-use Rattle.logic.specs.Formulas.{Formula, Operand, constant, operand_of, formula_by, formula}
+use Rattle.logic.specs.Formulas.{Formula, operand_of, formula_by, formula}
+use Rattle.tables.specs.declared.Operand.{Operand}
+use Rattle.tables.specs.declared.Operand.TheVariants.{Constant}
 use Rattle.logic.specs.Verdict.{verdict, verdict_answer}
 
 -- b and c of a comparison in a template: 2 is the parameter with the number c, the rest as in a rule
 abbrev pub operand_in : List ℕ → ℕ → ℕ → Operand
-operand_in parameters b x = cond (eqb b to_parameter) (constant (parameter parameters x)) (operand_of b x)
+operand_in parameters b x = cond (eqb b to_parameter) (Constant (parameter parameters x)) (operand_of b x)
 
 -- entry 0 is the whole template
 abbrev pub template_formula : List ℕ → List ℕ → Formula

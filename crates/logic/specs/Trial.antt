@@ -5,8 +5,8 @@ use Rattle.base.specs.Lists.{◌∈◌}
 use Rattle.tables.specs.Answers.{number, place, is_done, and_then, unless}
 use Rattle.tables.specs.Words.{row_at, row_count, rows}
 use Rattle.tables.specs.Tables.{check_table, accepted_table}
-use Rattle.tables.specs.declared.Answer.{Answer}
-use Rattle.tables.specs.declared.Answer.TheVariants.{Done, Refused}
+use Rattle.tables.specs.Answers.{Answer}
+use Rattle.tables.specs.Answers.{Done, Refused}
 use Rattle.sets.specs.Sets.{check_set}
 use Rattle.plans.specs.Plans.{step_words, step_at, step_count, steps_of, removing, step_row, place_for, step_place, table_after, RowsAfter}
 use Rattle.plans.specs.declared.Trial.{Trial}
@@ -14,6 +14,8 @@ use Rattle.logic.specs.Formulas.{Formula, formulas_of}
 use Rattle.logic.specs.Verdict.{verdict, verdict_bytes, set_verdicts_answer, set_verdicts_out}
 use Rattle.logic.specs.Parts.{reached}
 use Rattle.logic.specs.Demand.{Device, Sends, dump, taken, joined_parts, Claim}
+use Rattle.tables.specs.declared.Fault.TheVariants.{ShortOutput}
+use Rattle.std.specs.Prelude.{Err}
 
 -- ---- states: the working table, and the verdicts appended so far
 pub record State : Type 0 where
@@ -32,7 +34,7 @@ stepped Fs x s = record { table = table_after x.table s; verdicts = x.verdicts +
 -- the place of a refused step is its number
 abbrev pub at_step : ℕ → Answer → Answer
 at_step k (Done n) = Done n
-at_step k (Refused m p) = Refused m k
+at_step k (Err r) = Refused r.fault k
 
 -- the working table has so many words of room, and the verdicts so many bytes
 abbrev pub fits : State → ℕ → ℕ → Bool
@@ -43,7 +45,7 @@ unfoldable pub step_answer : List Formula → ℕ → ℕ → ℕ → State → 
 step_answer Fs words bytes k x s =
     at_step k (and_then (step_place x.table s)
     (and_then (check_table (table_after x.table s))
-    (unless (fits (stepped Fs x s) words bytes) 17
+    (unless (fits (stepped Fs x s) words bytes) ShortOutput
     (Done k))))
 
 -- ---- the run: the answer, the number of steps done, and the state that they leave
@@ -63,7 +65,7 @@ try_steps Fs words bytes k x (s ∷ ss) =
 -- before step 0: 20, 1 to 7, the given pool's 8 to 12, and 17 if the working table can't take it
 unfoldable pub begin_answer : List ℕ → List ℕ → List ℕ → ℕ → Answer
 begin_answer rules counts pool words =
-    and_then (check_set rules counts) (and_then (check_table pool) (unless (leb (length pool) words) 17 (Done 0)))
+    and_then (check_set rules counts) (and_then (check_table pool) (unless (leb (length pool) words) ShortOutput (Done 0)))
 
 -- no step is done and there is no working table
 abbrev pub nothing_done : State

@@ -7,10 +7,20 @@ use Rattle.tables.specs.Values.{is_less, is_at_most}
 use Rattle.tables.specs.Rules.{one, any_name, check_rule}
 use Rattle.tables.specs.Tables.{root, is_parent, check_table}
 use Rattle.tables.specs.declared.Row.{Row}
-use Rattle.tables.specs.declared.Answer.{Answer}
-use Rattle.tables.specs.declared.Answer.TheVariants.{Done}
+use Rattle.tables.specs.Answers.{Answer}
+use Rattle.tables.specs.Answers.{Done}
 use Rattle.sets.specs.Sets.{check_set}
-use Rattle.logic.specs.Formulas.{Formula, negation, joined, quantified, compared, Quantifier, every, some, Connective, and, or, implies, Comparison, equal, less, at_most, Over, roots, under, Operand, variable, constant, formula, formulas_of}
+use Rattle.logic.specs.Formulas.{Formula, negation, joined, quantified, compared, formula, formulas_of}
+use Rattle.tables.specs.declared.Quantifier.{Quantifier}
+use Rattle.tables.specs.declared.Quantifier.TheVariants.{Every, Exists}
+use Rattle.tables.specs.declared.Connective.{Connective}
+use Rattle.tables.specs.declared.Connective.TheVariants.{And, Or, Implies}
+use Rattle.tables.specs.declared.Comparison.{Comparison}
+use Rattle.tables.specs.declared.Comparison.TheVariants.{Equal, Less, AtMost}
+use Rattle.tables.specs.declared.Over.{Over}
+use Rattle.tables.specs.declared.Over.TheVariants.{Roots, Under}
+use Rattle.tables.specs.declared.Operand.{Operand}
+use Rattle.tables.specs.declared.Operand.TheVariants.{Variable, Constant}
 
 -- ---- bindings give each variable a row or nothing
 pub data Place : Type 0 where
@@ -34,19 +44,19 @@ value_at nothing = 0
 value_at (bound r) = r.value
 
 abbrev pub value_of : Bindings → Operand → ℕ
-value_of b (variable v) = value_at (b v)
-value_of b (constant k) = k
+value_of b (Variable v) = value_at (b v)
+value_of b (Constant k) = k
 
 abbrev pub compare : Comparison → ℕ → ℕ → Bool
-compare equal m n = eqb m n
-compare less m n = is_less m n
-compare at_most m n = is_at_most m n
+compare Equal m n = eqb m n
+compare Less m n = is_less m n
+compare AtMost m n = is_at_most m n
 
 -- ---- connectives
 abbrev pub connect : Connective → Bool → Bool → Bool
-connect and a b = a && b
-connect or a b = a || b
-connect implies a b = not a || b
+connect And a b = a && b
+connect Or a b = a || b
+connect Implies a b = not a || b
 
 -- ---- quantifiers
 -- a quantifier's name test: any name (02, wish 2), or its own
@@ -60,17 +70,17 @@ hangs (bound p) r = is_parent r p
 
 -- a quantifier ranges over the rows that pass its name test and are roots, or whose parent is the bound row
 abbrev pub ranges : Over → ℕ → Bindings → Row → Bool
-ranges roots n b r = root r && named n r
-ranges (under v) n b r = hangs (b v) r && named n r
+ranges Roots n b r = root r && named n r
+ranges (Under v) n b r = hangs (b v) r && named n r
 
 -- over no rows, kind 5 is true and kind 6 false: this is also what each row's body has to be for the quantifier not to be decided
 abbrev pub settled : Quantifier → Bool
-settled every = true
-settled some = false
+settled Every = true
+settled Exists = false
 
 abbrev pub both : Quantifier → Bool → Bool → Bool
-both every a b = a && b
-both some a b = a || b
+both Every a b = a && b
+both Exists a b = a || b
 
 abbrev pub fold : Quantifier → (Row → Bool) → List Row → Bool
 fold q f [] = settled q

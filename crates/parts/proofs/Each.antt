@@ -1,22 +1,21 @@
--- The loop over a set's rules for one row: what is left to ask is that of the rules left. Assumes nothing.
-use Prim.Native.Nat.{ℕ, ◌+◌, ◌-◌, ◌<◌, ◌≤◌}
+-- A set's rules asked for one row, one after the other. Assumes nothing.
+use Prim.Native.Nat.{ℕ, ◌<◌}
 use mathlib.Core.Path.{◌≡◌, refl, sym, ap, subst, ◌∙◌}
 use mathlib.Core.Bool.{Bool, true, false, not, cond, ◌&&◌, ◌||◌}
-use mathlib.Core.List.{List, [], ◌∷◌, map}
+use mathlib.Core.List.{List, [], ◌∷◌, map, Memᴰ}
 use native.Mathlib.Omega.{arith}
-use lib.ListN.{length}
 use lib.Dec.{eqb}
-use Rattle.base.specs.Lists.{all, any}
-use Rattle.tables.specs.Words.{row_at, rows}
+use Rattle.base.specs.Lists.{◌∈◌, all, any}
+use Rattle.tables.specs.Words.{row_at, row_count, rows}
 use Rattle.tables.specs.Rules.{to_constant, around_from, accepted_rule}
 use Rattle.tables.specs.declared.Row.{Row}
 use Rattle.tables.proofs.AcceptedRule.{some_entry}
-use Rattle.sets.specs.Sets.{entries_of, rule_at, rules_from}
-use Rattle.sets.proofs.Sets.{counts_fit_lem, each_accepted, Walked, walk_begin, walk_more, rules_left, none_left}
-use Rattle.logic.specs.Formulas.{formula, formulas_of}
+use Rattle.sets.specs.Sets.{accepted_set, rules_of}
+use Rattle.sets.proofs.Sets.{rule_accepted}
+use Rattle.logic.specs.Formulas.{Formula, formula, formulas_of}
 use Rattle.logic.specs.Parts.{reached, spare, reached_by_any, spare_for_each}
 use Rattle.parts.specs.Reaching.{no_binders, chains_below}
-use Rattle.parts.specs.Omitting.{omitted_at, ReadyOmit, omitted, ReadyEach}
+use Rattle.parts.specs.Omitting.{omitted_at, ReadyOmit, omitted}
 use Rattle.parts.specs.declared.chains.Binders.{Binders}
 
 -- ---- one rule, from its first entry on
@@ -44,55 +43,48 @@ omitted_by_all m D r rs = go (eqb m 2) rs
     go true (x ∷ xs) = turned (reached (formula x) D r) (any (λ F. reached F D r) (map formula xs)) ∙ ap (◌&&◌ (not (reached (formula x) D r))) (go true xs)
     go false (x ∷ xs) = ap (◌&&◌ (spare (formula x) D r)) (go false xs)
 
-module _ (rules counts t parents : List ℕ) (m row : ℕ) where
-  abbrev left_from : ℕ → Bool
-  left_from i = all (omitted_by m (rows t) (row_at t row)) (rules_from rules counts i (length counts - i))
+module _ (Fs : List Formula) (t : List ℕ) (m row : ℕ) where
+  -- the rules left are accepted, and what is left to ask is theirs
+  pub record Asks (left : List (List ℕ)) : Type 0 where
+    pub accepted : (rule : List ℕ) → rule ∈ left → accepted_rule rule ≡ true
+    pub answer : omitted m Fs (rows t) (row_at t row) ≡ all (omitted_by m (rows t) (row_at t row)) left
 
-  pub record Asks (i before : ℕ) : Type 0 where
-    pub walked : Walked rules counts i before
-    pub left : omitted m (formulas_of rules counts) (rows t) (row_at t row) ≡ left_from i
+  module _ {rule : List ℕ} {left all_left : List (List ℕ)} (asks : Asks all_left) (left_is : all_left ≡ rule ∷ left) where
+    these : Asks (rule ∷ left)
+    these = subst Asks left_is asks
 
-  pub ask_begin : ReadyEach rules counts t parents row → Asks 0 0
-  ask_begin ready =
-      let z : length counts ≡ length counts - 0 = omega arith in
-      record {
-        walked = walk_begin rules counts (counts_fit_lem rules counts ready.set_accepted);
-        left = omitted_by_all m (rows t) (row_at t row) (rules_from rules counts 0 (length counts))
-            ∙ ap (λ (k : ℕ). all (omitted_by m (rows t) (row_at t row)) (rules_from rules counts 0 k)) z;
-      }
+    pub rule_ok : accepted_rule rule ≡ true
+    rule_ok = these.accepted rule (Memᴰ.head refl)
 
-  module _ (ready : ReadyEach rules counts t parents row) {i before : ℕ} (a : Asks i before) (h : i < length counts) where
-    module _ {rule : List ℕ} (rule_is : rule ≡ rule_at rules counts i) {by : Binders} (by_is : by ≡ no_binders) where
-      rule_ok : accepted_rule rule ≡ true
-      rule_ok = subst (λ (r : List ℕ). accepted_rule r ≡ true) (sym rule_is) (each_accepted rules counts ready.set_accepted i h)
-
-      pub ask_ready : ReadyOmit rule t parents by 0 row
+    module _ {by : Binders} (by_is : by ≡ no_binders) where
+      pub ask_ready : row < row_count t → ReadyOmit rule t by 0 row
       unfolding around_from
-      ask_ready = subst (λ (z : Binders). ReadyOmit rule t parents z 0 row) (sym by_is) (record {
-        rule_accepted = rule_ok;
-        table_accepted = ready.table_accepted;
-        has_parents = ready.has_parents;
+      ask_ready h = subst (λ (z : Binders). ReadyOmit rule t z 0 row) (sym by_is) (record {
         sized = refl;
-        binders = record { inside = λ v l. absurd (omega arith); over = λ v l. absurd (omega arith) };
+        binders = λ v l. absurd (omega arith);
         inside = some_entry to_constant rule rule_ok;
         depth_is = refl;
-        row_inside = ready.row_inside;
+        row_inside = h;
       })
 
       module _ {x : Bool} (x_is : x ≡ omitted_at m rule t by 0 row) where
-        next_is : omitted m (formulas_of rules counts) (rows t) (row_at t row) ≡ (x && left_from (i + 1))
-        next_is =
-            a.left ∙ ap (all (omitted_by m (rows t) (row_at t row))) (rules_left rules counts a.walked h)
-            ∙ ap (λ (b : Bool). b && left_from (i + 1)) (sym (x_is ∙ omitted_is m rule t row by_is ∙ ap (omitted_by m (rows t) (row_at t row)) rule_is))
+        next_is : omitted m Fs (rows t) (row_at t row) ≡ (x && all (omitted_by m (rows t) (row_at t row)) left)
+        next_is = these.answer ∙ ap (λ (b : Bool). b && all (omitted_by m (rows t) (row_at t row)) left) (sym (x_is ∙ omitted_is m rule t row by_is))
 
-        pub ask_needed : x ≡ false → false ≡ omitted m (formulas_of rules counts) (rows t) (row_at t row)
-        ask_needed e = sym (next_is ∙ ap (λ (b : Bool). b && left_from (i + 1)) e)
+        pub ask_needed : x ≡ false → false ≡ omitted m Fs (rows t) (row_at t row)
+        ask_needed e = sym (next_is ∙ ap (λ (b : Bool). b && all (omitted_by m (rows t) (row_at t row)) left) e)
 
-        pub ask_more : x ≡ true → {end : ℕ} → end ≡ before + entries_of counts i → Asks (i + 1) end
-        ask_more e end_is = record {
-          walked = walk_more rules counts a.walked h end_is;
-          left = next_is ∙ ap (λ (b : Bool). b && left_from (i + 1)) e;
+        pub ask_more : x ≡ true → Asks left
+        ask_more e = record {
+          accepted = λ r i. these.accepted r (Memᴰ.tail i);
+          answer = next_is ∙ ap (λ (b : Bool). b && all (omitted_by m (rows t) (row_at t row)) left) e;
         }
 
-  pub ask_end : {i before : ℕ} → Asks i before → length counts ≤ i → true ≡ omitted m (formulas_of rules counts) (rows t) (row_at t row)
-  ask_end {i} a h = sym (a.left ∙ ap (all (omitted_by m (rows t) (row_at t row))) (none_left rules counts i h))
+  pub ask_end : {left : List (List ℕ)} → Asks left → left ≡ [] → true ≡ omitted m Fs (rows t) (row_at t row)
+  ask_end asks e = sym (asks.answer ∙ ap (all (omitted_by m (rows t) (row_at t row))) e)
+
+pub ask_begin : (rules counts t : List ℕ) (m row : ℕ) → accepted_set rules counts ≡ true → {left : List (List ℕ)} → left ≡ rules_of rules counts → Asks (formulas_of rules counts) t m row left
+ask_begin rules counts t m row ok e = rw e (record {
+  accepted = λ r i. rule_accepted rules counts ok i;
+  answer = omitted_by_all m (rows t) (row_at t row) (rules_of rules counts);
+})

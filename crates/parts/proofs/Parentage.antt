@@ -4,7 +4,6 @@ use mathlib.Core.Path.{◌≡◌, sym, ◌∙◌}
 use mathlib.Core.Bool.{Bool, true, false, true≢false}
 use mathlib.Core.List.{List, [], ◌∷◌}
 use native.Mathlib.Omega.{arith}
-use lib.ListN.{get_or}
 use Rattle.base.specs.Lists.{select}
 use Rattle.base.proofs.Bools.{either}
 use Rattle.base.proofs.Search.{first_le, none_before, at_first}
@@ -13,7 +12,7 @@ use Rattle.tables.specs.Tables.{is_parent, accepted_table}
 use Rattle.tables.specs.declared.Row.{Row}
 use Rattle.tables.proofs.Accepted.{parent_device, parent_at, same_place, behind}
 use Rattle.logic.proofs.Walks.{select_none, select_one, select_span}
-use Rattle.parts.specs.Reaching.{parent_of, Parents}
+use Rattle.parts.specs.Families.{parent_of}
 
 -- one row alone passes a test
 select_only : (P : Row → Bool) (t : List ℕ) (n p : ℕ) → p < n → P (row_at t p) ≡ true → ((j : ℕ) → j < n → P (row_at t j) ≡ true → j ≡ p) → select P (rows_from t 0 n) ≡ row_at t p ∷ []
@@ -28,9 +27,6 @@ module _ (t : List ℕ) (ok : accepted_table t ≡ true) (i : ℕ) (h : i < row_
   pub parent_le : parent_of t i ≤ i
   unfolding parent_of
   parent_le = first_le (λ j. is_parent (row_at t i) (row_at t j)) i
-
-  pub held_le : (parents : List ℕ) → Parents t parents → get_or parents i 0 ≤ i
-  held_le parents has = omega (arith, has.holds i h, parent_le)
 
   -- a row without a parent
   pub no_parents : parent_of t i ≡ i → select (is_parent (row_at t i)) (rows t) ≡ []

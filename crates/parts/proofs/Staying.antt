@@ -1,73 +1,65 @@
 -- A row stays where it passes its mode's test and it is a root or its parent stays. Assumes nothing.
-use Prim.Native.Nat.{ℕ, ◌<◌, ◌≤◌}
+use Prim.Native.Nat.{ℕ, ◌+◌, ◌<◌}
 use mathlib.Core.Path.{◌≡◌, refl, sym, ap, ◌∙◌}
-use mathlib.Core.Bool.{Bool, true, false, not, cond, ◌&&◌, ◌||◌, and-false, and-true, true≢false, false≢true}
+use mathlib.Core.Bool.{Bool, true, false, not, cond, ◌&&◌, ◌||◌, and-true, true≢false}
 use mathlib.Core.List.{List}
 use native.Mathlib.Omega.{arith}
-use lib.ListN.{length, get_or}
+use lib.ListN.{length, get_or, set, length-set}
+use lib.Seq.{get_or-set_same, get_or-set_other}
+use mathlib.Core.Logic.{⊎_elim}
+use native.Mathlib.Nat.{eq-or-lt_of_le}
 use lib.Dec.{eqb}
-use borrow.Author.Tests.{eq-eqb, ne_eqb, eqb-true, eqb-false}
+use borrow.Author.Tests.{eqb-true, eqb-false}
 use Rattle.base.specs.Lists.{all}
 use Rattle.base.proofs.Bools.{either}
 use Rattle.base.proofs.Search.{none_before}
-use Rattle.tables.specs.Words.{row_at, row_count, rows}
-use Rattle.tables.specs.Rules.{one}
-use Rattle.tables.specs.Tables.{root, is_parent, row_limit}
+use Rattle.tables.specs.Words.{row_at, rows}
+use Rattle.tables.specs.Tables.{root, is_parent, row_limit, accepted_table}
 use Rattle.tables.specs.declared.Row.{Row}
 use Rattle.tables.proofs.Accepted.{few_rows, has_parent}
 use Rattle.tables.proofs.RowLists.{row_in}
 use Rattle.tables.proofs.Proper.{rows_proper}
-use Rattle.logic.specs.Formulas.{Formula, formulas_of}
+use Rattle.logic.specs.Formulas.{Formula}
 use Rattle.logic.specs.Parts.{ancestors}
 use Rattle.logic.proofs.Ancestors.{stays_child, stays_root}
-use Rattle.parts.specs.Reaching.{parent_of}
-use Rattle.parts.specs.Omitting.{omitted, ReadyEach}
-use Rattle.parts.specs.Keeping.{OneDevice, left_out, passes, stays, ReadyRow}
+use denote.Enum.Bare.{sameb}
+use Rattle.parts.specs.declared.modes.Mode.{Mode}
+use Rattle.parts.specs.declared.modes.Mode.TheVariants.{All, Branch, Full}
+use Rattle.parts.specs.contracts.modes.Mode as modes
+use Rattle.parts.specs.Modes.{word_of}
+use Rattle.parts.specs.Families.{parent_of, family_at, Families}
+use Rattle.parts.specs.declared.families.Family.{Family}
+use Rattle.parts.specs.Omitting.{omitted}
+use Rattle.parts.specs.Keeping.{left_out, passes, stays, Keeps, ReadyRow}
 use Rattle.parts.proofs.Parentage.{parent_le, parent_before, parent_is}
 
--- ---- the code's ways
-module _ (parents kept : List ℕ) (i : ℕ) where
-  pub own_parent : get_or parents i 0 ≡ i → false ≡ left_out parents kept i
-  own_parent h = sym (ap (λ (b : Bool). cond b false (eqb (get_or kept (get_or parents i 0) 0) 0)) (eq-eqb (get_or parents i 0) i h))
+pub is_all : (m : Mode) → sameb modes.the_type m All ≡ eqb (word_of m) 1
+is_all All = refl
+is_all Branch = refl
+is_all Full = refl
 
-  pub other_parent : (get_or parents i 0 ≡ i → ⊥) → eqb (get_or kept (get_or parents i 0) 0) 0 ≡ left_out parents kept i
-  other_parent h = sym (ap (λ (b : Bool). cond b false (eqb (get_or kept (get_or parents i 0) 0) 0)) (ne_eqb (get_or parents i 0) i h))
-
--- ---- one row
-module _ {rules counts t parents kept : List ℕ} {m i : ℕ} (ready : ReadyRow rules counts t parents kept m i) where
-  abbrev Fs : List Formula
-  Fs = formulas_of rules counts
-
+module _ {Fs : List Formula} {t : List ℕ} {kept : List Bool} {m i : ℕ} (ok : accepted_table t ≡ true) {fs : List Family} (has : Families t fs) (ready : ReadyRow Fs t kept m i) where
   abbrev D : List Row
   D = rows t
 
   abbrev stay : ℕ → Bool
   stay j = stays m Fs D (row_at t j)
 
-  ok : OneDevice t
-  ok = ready.ready.device
+  parent_at : (family_at fs i).parent ≡ parent_of t i
+  parent_at = has.parent i ready.row_inside
 
-  parent_at : get_or parents i 0 ≡ parent_of t i
-  parent_at = ready.has_parents.holds i ready.row_inside
-
-  pub few : row_count t ≤ row_limit
-  few = few_rows t ok.accepted
-
-  pub parents_inside : i < length parents
-  parents_inside = omega (arith, few, ready.row_inside, ready.has_parents.sized)
-
-  pub parent_inside : get_or parents i 0 < length kept
-  parent_inside = omega (arith, few, ready.row_inside, ready.kept_before.sized, parent_at, parent_le t ok.accepted i ready.row_inside)
+  pub parent_inside : (family_at fs i).parent < length kept
+  parent_inside = omega (arith, few_rows t ok, ready.row_inside, ready.kept_before.sized, parent_at, parent_le t ok i ready.row_inside)
 
   -- without a parent it is a root
   is_root : parent_of t i ≡ i → root (row_at t i) ≡ true
   unfolding parent_of
   is_root e = either (root (row_at t i)) (λ f. f)
-      (λ f. let q = has_parent t ok.accepted i ready.row_inside f in
+      (λ f. let q = has_parent t ok i ready.row_inside f in
       absurd (true≢false (sym q.2 ∙ none_before (λ j. is_parent (row_at t i) (row_at t j)) i q.0 (omega (arith, q.1)))))
 
   -- what is left to its own test, once its parent stays
-  own : Bool
+  abbrev own : Bool
   own = eqb m 1 || passes m Fs D (row_at t i)
 
   go_root : (b : Bool) (r : Bool) → cond b true (passes m Fs D (row_at t i) && r) ≡ ((b || passes m Fs D (row_at t i)) && cond b true r)
@@ -75,9 +67,9 @@ module _ {rules counts t parents kept : List ℕ} {m i : ℕ} (ready : ReadyRow 
   go_root false r = refl
 
   stay_root : parent_of t i ≡ i → stay i ≡ own
-  unfolding stays own
+  unfolding stays
   stay_root e =
-      ap (λ (b : Bool). cond (eqb m 1) true b) (stays_root D (rows_proper t ok.accepted).order.parented (passes m Fs D) (row_at t i) (is_root e))
+      ap (λ (b : Bool). cond (eqb m 1) true b) (stays_root D (rows_proper t ok).order.parented (passes m Fs D) (row_at t i) (is_root e))
       ∙ go_root (eqb m 1) true ∙ go (eqb m 1)
     where
       go : (b : Bool) → ((b || passes m Fs D (row_at t i)) && cond b true true) ≡ (b || passes m Fs D (row_at t i))
@@ -85,66 +77,48 @@ module _ {rules counts t parents kept : List ℕ} {m i : ℕ} (ready : ReadyRow 
       go false = and-true (passes m Fs D (row_at t i))
 
   stay_child : (parent_of t i ≡ i → ⊥) → stay i ≡ (own && stay (parent_of t i))
-  unfolding stays own
+  unfolding stays
   stay_child n =
       ap (λ (b : Bool). cond (eqb m 1) true b)
-      (stays_child D (rows_proper t ok.accepted).order.parented (passes m Fs D) (row_at t i) (row_at t (parent_of t i))
-      (row_in t (parent_of t i) (omega (arith, parent_before t ok.accepted i ready.row_inside n, ready.row_inside)))
-      (parent_is t ok.accepted i ready.row_inside n))
+      (stays_child D (rows_proper t ok).order.parented (passes m Fs D) (row_at t i) (row_at t (parent_of t i))
+      (row_in t (parent_of t i) (omega (arith, parent_before t ok i ready.row_inside n, ready.row_inside)))
+      (parent_is t ok i ready.row_inside n))
       ∙ go_root (eqb m 1) (passes m Fs D (row_at t (parent_of t i)) && all (passes m Fs D) (ancestors D (row_at t (parent_of t i))))
 
-  byte_zero : (b : Bool) → eqb (one b) 0 ≡ not b
-  byte_zero true = refl
-  byte_zero false = refl
+  stay_is : stay i ≡ (not (left_out fs kept i) && own)
+  stay_is = either (eqb (family_at fs i).parent i)
+      (λ e. rw e (stay_root (sym parent_at ∙ eqb-true (family_at fs i).parent i e)))
+      (λ e. let n : parent_of t i ≡ i → ⊥ = λ q. eqb-false (family_at fs i).parent i e (parent_at ∙ q) in
+      let k : get_or kept (family_at fs i).parent false ≡ stay (parent_of t i) =
+      ap (λ (p : ℕ). get_or kept p false) parent_at ∙ ready.kept_before.kept_is (parent_of t i) (parent_before t ok i ready.row_inside n) in
+      rw (e, k) (stay_child n ∙ turned own (stay (parent_of t i))))
+    where
+      turned : (a b : Bool) → (a && b) ≡ (not (not b) && a)
+      turned true true = refl
+      turned true false = refl
+      turned false true = refl
+      turned false false = refl
 
-  parent_byte : (parent_of t i ≡ i → ⊥) → eqb (get_or kept (get_or parents i 0) 0) 0 ≡ not (stay (parent_of t i))
-  parent_byte n =
-      ap (λ (p : ℕ). eqb (get_or kept p 0) 0) parent_at
-      ∙ ap (λ (x : ℕ). eqb x 0) (ready.kept_before.holds (parent_of t i) (parent_before t ok.accepted i ready.row_inside n))
-      ∙ byte_zero (stay (parent_of t i))
+  module _ {l : Bool} (l_is : l ≡ left_out fs kept i) where
+    pub parent_lost : l ≡ true → false ≡ stay i
+    parent_lost h = sym (stay_is ∙ ap (λ (z : Bool). not z && own) (sym l_is ∙ h))
 
-  module _ {l : Bool} (l_is : l ≡ left_out parents kept i) where
-    pub parent_lost : l ≡ true → ◌≡◌ {A = ℕ} 0 (one (stay i))
-    parent_lost h = either (eqb (get_or parents i 0) i)
-        (λ e. absurd (true≢false (sym h ∙ l_is ∙ ap (λ (b : Bool). cond b false (eqb (get_or kept (get_or parents i 0) 0) 0)) e)))
-        (λ e. let n : parent_of t i ≡ i → ⊥ = λ q. eqb-false (get_or parents i 0) i e (parent_at ∙ q) in
-        let z : not (stay (parent_of t i)) ≡ true = sym (parent_byte n) ∙ sym (ap (λ (b : Bool). cond b false (eqb (get_or kept (get_or parents i 0) 0) 0)) e) ∙ sym l_is ∙ h in
-        sym (ap one (stay_child n ∙ lost own (stay (parent_of t i)) z)))
-      where
-        lost : (a b : Bool) → not b ≡ true → (a && b) ≡ false
-        lost a true z = absurd (false≢true z)
-        lost a false z = and-false a
+    own_test : l ≡ false → stay i ≡ own
+    own_test h = stay_is ∙ ap (λ (z : Bool). not z && own) (sym l_is ∙ h)
 
-    parent_kept : l ≡ false → stay i ≡ own
-    parent_kept h = either (eqb (get_or parents i 0) i)
-        (λ e. stay_root (sym parent_at ∙ eqb-true (get_or parents i 0) i e))
-        (λ e. let n : parent_of t i ≡ i → ⊥ = λ q. eqb-false (get_or parents i 0) i e (parent_at ∙ q) in
-        let z : not (stay (parent_of t i)) ≡ false = sym (parent_byte n) ∙ sym (ap (λ (b : Bool). cond b false (eqb (get_or kept (get_or parents i 0) 0) 0)) e) ∙ sym l_is ∙ h in
-        stay_child n ∙ kept_one own (stay (parent_of t i)) z)
-      where
-        kept_one : (a b : Bool) → not b ≡ false → (a && b) ≡ a
-        kept_one a true z = and-true a
-        kept_one a false z = absurd (true≢false z)
+    module _ (h : l ≡ false) {a : Bool} (a_is : a ≡ eqb m 1) where
+      pub stays_all : a ≡ true → a ≡ stay i
+      stays_all e = e ∙ sym (own_test h ∙ ap (λ (z : Bool). z || passes m Fs D (row_at t i)) (sym a_is ∙ e))
 
-    pub stays_all : l ≡ false → m ≡ 1 → ◌≡◌ {A = ℕ} 1 (one (stay i))
-    unfolding own
-    stays_all h e = sym (ap one (parent_kept h ∙ ap (λ (b : Bool). b || passes m Fs D (row_at t i)) (eq-eqb m 1 e)))
+      pub stays_by : a ≡ false → {x : Bool} → x ≡ omitted m Fs D (row_at t i) → not x ≡ stay i
+      stays_by e x_is = ap not x_is ∙ sym (own_test h ∙ ap (λ (z : Bool). z || passes m Fs D (row_at t i)) (sym a_is ∙ e))
 
-    module _ (h : l ≡ false) (e : m ≡ 1 → ⊥) {x : Bool} (x_is : x ≡ omitted m Fs D (row_at t i)) where
-      passes_is : stay i ≡ not x
-      unfolding own
-      passes_is = parent_kept h ∙ ap (λ (b : Bool). b || passes m Fs D (row_at t i)) (ne_eqb m 1 e) ∙ ap not (sym x_is)
-
-      pub stays_omitted : x ≡ true → ◌≡◌ {A = ℕ} 0 (one (stay i))
-      stays_omitted f = sym (ap one (passes_is ∙ ap not f))
-
-      pub stays_kept : x ≡ false → ◌≡◌ {A = ℕ} 1 (one (stay i))
-      stays_kept f = sym (ap one (passes_is ∙ ap not f))
-
-  pub each_ready : ReadyEach rules counts t parents i
-  each_ready = record {
-    set_accepted = ready.ready.set_accepted;
-    table_accepted = ok.accepted;
-    has_parents = ready.has_parents;
-    row_inside = ready.row_inside;
-  }
+-- ---- one more row that is known
+pub keeps_more : {Fs : List Formula} {t : List ℕ} {m : ℕ} {kept : List Bool} {i : ℕ} {k : Bool} → Keeps Fs t m kept i → i < row_limit → k ≡ stays m Fs (rows t) (row_at t i) → Keeps Fs t m (set kept i k) (i + 1)
+keeps_more {Fs} {t} {m} {kept} {i} {k} s l e = record {
+  sized = length-set kept i k ∙ s.sized;
+  kept_is = λ j h. ⊎_elim
+      (λ q. let z : j ≡ i = omega arith in ap (λ (n : ℕ). get_or (set kept i k) n false) z ∙ get_or-set_same kept i k false (omega (arith, s.sized)) ∙ e ∙ ap (λ (n : ℕ). stays m Fs (rows t) (row_at t n)) (sym z))
+      (λ q. let z : j < i = omega arith in get_or-set_other kept i j k false (λ w. omega arith) ∙ s.kept_is j z)
+      (eq-or-lt_of_le h);
+}

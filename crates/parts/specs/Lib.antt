@@ -1,4 +1,7 @@
 pub mod Device
+pub mod Families
+pub mod Modes
+pub mod Ranges
 pub mod Reaching
 pub mod Omitting
 pub mod Keeping

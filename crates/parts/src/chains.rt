@@ -2,12 +2,14 @@
 ghost use Rattle.std.specs.Prelude.{◌≡◌, ◌<◌, get_or};
 ghost use Rattle.tables.specs.Rules.{entry_limit, nesting_limit};
 ghost use Rattle.tables.specs.Tables.{row_limit};
-ghost use Rattle.parts.specs.Reaching.{no_binders, with_binder, not_reached, binds_from, ReadyClimb, Climbed};
+ghost use Rattle.parts.specs.Reaching.{no_binders, with_binder, bound_from, ReadyClimb, Climbed};
 
-use super::words::{entry_at, row_at};
+use super::question::Question;
 use engine::{Bindings, is_named};
+use tables::{Node, Over, entry_at, node_of, row_at};
 
 // The quantifiers around an entry: variable v is bound by the quantifier at entry[v], and the first `depth` variables are bound.
+// Kept: an array with its depth, since memory is fixed; no type is shared with `Bindings`: these are entries of a rule, those places of a table.
 #[derive(Clone, Copy)]
 pub struct Binders {
     pub entry: [u16; Bindings::LIMIT],
@@ -44,71 +46,51 @@ impl Binders {
     }
 }
 
-// Whether a quantifier reaches a row, and then the bindings along the chain.
-#[derive(Clone, Copy)]
-pub struct Chain {
-    pub found: bool,
-    pub bound: Bindings,
-}
-
-fn not_reached() -> Chain
-    ensures { result ≡ not_reached }
-{
-    Chain {
-        found: false,
-        bound: Bindings::none(),
-    }
-}
-
 // The bindings of a chain with one more variable, bound to a row.
-fn reached_from(b: Bindings, variable: usize, row: usize) -> Chain
+fn bound_from(above: Bindings, variable: usize, row: usize) -> Bindings
     requires { (variable < nesting_limit) × (row < row_limit) }
-    ensures { result ≡ binds_from b variable row }
+    ensures { result ≡ bound_from above variable row }
 {
-    let places = b.row;
     let below = Bindings {
-        row: places,
         depth: variable as u16,
+        ..above
     };
-    Chain {
-        found: true,
-        bound: below.bind(row + 1),
-    }
+    below.bind(row + 1)
 }
 
-// How the quantifier at an entry, which binds that variable, reaches a row: as a root, or from the row's parent.
+// How the quantifier at an entry, which binds that variable, reaches a row, if it does: as a root, or from the row's parent. The answer
+// is the bindings along the chain.
 pub(crate) fn climb(
-    rule: &[u32],
-    table: &[u32],
-    parents: &[u16],
-    by: Binders,
+    q: &Question<'_>,
+    around: Binders,
     variable: usize,
     entry: usize,
     row: usize,
-) -> Chain
-    requires { ReadyClimb rule.now table.now parents.now by.entry variable entry row }
-    ensures { Climbed rule.now table.now by.entry variable entry row result }
+) -> Option<Bindings>
+    requires { ReadyClimb q.now.rule.now q.now.device.table.now around.entry variable entry row }
+    ensures { Climbed q.now.rule.now q.now.device.table.now around.entry variable entry row result }
 {
-    let e = entry_at(rule, entry);
-    let r = row_at(table, row);
-    if !is_named(e.c, r) {
-        return not_reached();
+    let Node::Quantifier { over, name, .. } = node_of(entry_at(q.rule, entry)) else {
+        return None;
+    };
+    let r = row_at(q.device.table, row);
+    if !is_named(name, r) {
+        return None;
     }
-    if e.b == 0 {
-        if r.up != 0 {
-            return not_reached();
+    match over {
+        Over::Roots => {
+            if r.up != 0 {
+                return None;
+            }
+            Some(bound_from(Bindings::none(), variable, row))
         }
-        return reached_from(Bindings::none(), variable, row);
+        Over::Under(above) => {
+            let parent = q.device.families[row].parent as usize;
+            if parent == row {
+                return None;
+            }
+            let chain = climb(q, around, above, around.of(above), parent)?;
+            Some(bound_from(chain, variable, row))
+        }
     }
-    let parent = parents[row] as usize;
-    if parent == row {
-        return not_reached();
-    }
-    let above = e.b as usize - 1;
-    let chain = climb(rule, table, parents, by, above, by.of(above), parent);
-    if chain.found {
-        let b = chain.bound;
-        return reached_from(b, variable, row);
-    }
-    not_reached()
 }

@@ -1,129 +1,153 @@
 // What an entry reads on one device's rows, with each variable bound to one of them or elsewhere. The question is always whether it reads
 // a wanted value, true or false: open is neither.
-ghost use Rattle.std.specs.Prelude.{◌≡◌, ◌+◌, ◌<◌};
+ghost use Rattle.std.specs.Prelude.{◌≡◌, ◌<◌, ◌+◌, ◌≤◌};
 ghost use Rattle.tables.specs.Rules.{nesting_limit};
+ghost use Rattle.tables.specs.Words.{row_count};
 ghost use Rattle.logic.specs.Reading as meaning;
 ghost use Rattle.engine.specs.Ready.{Placed, Ready};
-ghost use Rattle.parts.specs.Device.{compared_at, reads_at, sweeps_at, ReadySweep};
-ghost use Rattle.parts.specs.Reaching.{Ends};
+ghost use Rattle.parts.specs.Device.{value_at, operand_at, Bound, compared_at, reads_at, sweeps_at, ReadySweep};
 
-use super::ranges::{next_ranged, place_of, place_under};
-use super::words::{entry_at, row_at, row_count};
-use engine::{Bindings, compare_values};
-use tables::Entry;
+use super::question::Question;
+use super::ranges::{next_ranged, parent_under, row_of};
+use engine::{Bindings, compare};
+use tables::{
+    Comparison, Connective, Node, Operand, Over, Quantifier, ROW_WORDS, entry_at, node_of, row_at,
+};
+
+// The value of a variable's row, unless it is elsewhere.
+fn value_at(table: &[u32], b: Bindings, variable: usize) -> Option<u32>
+    requires placed { Placed table.now b }
+    requires variable { variable < nesting_limit }
+    ensures { result ≡ value_at table.now b variable }
+{
+    let row = row_of(b, variable)?;
+    Some(row_at(table, row).value)
+}
+
+fn operand_at(table: &[u32], b: Bindings, operand: Operand) -> Option<u32>
+    requires placed { Placed table.now b }
+    requires bound { Bound operand }
+    ensures { result ≡ operand_at table.now b operand }
+{
+    match operand {
+        Operand::Variable(variable) => value_at(table, b, variable),
+        Operand::Constant(value) => Some(value),
+    }
+}
 
 // A comparison that touches an elsewhere variable is open.
-fn compared(table: &[u32], b: Bindings, e: Entry, wanted: bool) -> bool
+fn compared(
+    table: &[u32],
+    b: Bindings,
+    by: Comparison,
+    variable: usize,
+    operand: Operand,
+    wanted: bool,
+) -> bool
     requires placed { Placed table.now b }
-    requires a_lt_nesting_limit { e.a < nesting_limit }
-    requires c_lt_nesting_limit { e.b ≡ 0 → e.c < nesting_limit }
-    ensures { result ≡ meaning.reads wanted (compared_at table.now b e) }
+    requires variable { variable < nesting_limit }
+    requires bound { Bound operand }
+    ensures { result ≡ meaning.reads wanted (compared_at table.now b by variable operand) }
 {
-    let p = place_of(b, e.a as usize);
-    if p == 0 {
+    let Some(left) = value_at(table, b, variable) else {
         return false;
-    }
-    let left = row_at(table, p - 1).value;
-    if e.b != 0 {
-        return compare_values(e.kind, left, e.c) == wanted;
-    }
-    let q = place_of(b, e.c as usize);
-    if q == 0 {
+    };
+    let Some(right) = operand_at(table, b, operand) else {
         return false;
-    }
-    compare_values(e.kind, left, row_at(table, q - 1).value) == wanted
+    };
+    compare(by, left, right) == wanted
+}
+
+// A quantifier's body that is asked for a value over rows: all of them have to be as wanted, or one.
+#[derive(Clone, Copy)]
+struct Asked<'a> {
+    q: &'a Question<'a>,
+    b: Bindings,
+    parent: Option<usize>,
+    name: u32,
+    body: usize,
+    wanted: bool,
+    all: bool,
 }
 
 // Whether an entry reads the wanted value.
 #[cycle(reads_sweep)]
-pub(crate) fn reads(
-    rule: &[u32],
-    table: &[u32],
-    ends: &[u16],
-    b: Bindings,
-    entry: usize,
-    wanted: bool,
-) -> bool
-    requires ready { Ready rule.now table.now b entry }
-    requires ends { Ends table.now ends.now }
-    ensures { result ≡ reads_at rule.now table.now b entry wanted }
+pub(crate) fn reads<'a>(q: &'a Question<'a>, b: Bindings, entry: usize, wanted: bool) -> bool
+    requires { Ready q.now.rule.now q.now.device.table.now b entry }
+    ensures { result ≡ reads_at q.now.rule.now q.now.device.table.now b entry wanted }
 {
-    let e = entry_at(rule, entry);
-    let a = e.a as usize;
-    if e.kind == 1 {
-        return reads(rule, table, ends, b, a, !wanted);
-    }
-    if e.kind < 5 {
-        // Both sides have to be as asked, or one; implies asks its left side for the other value.
-        let both = wanted == (e.kind == 2);
-        let left = reads(rule, table, ends, b, a, wanted == (e.kind < 4));
-        if left == both {
-            return reads(rule, table, ends, b, e.b as usize, wanted);
+    match node_of(entry_at(q.rule, entry)) {
+        Node::Not { body } => reads(q, b, body, !wanted),
+        Node::Connective { by, left, right } => {
+            // Both sides have to be as asked, or one; implies asks its left side for the other value.
+            let both = wanted == (by == Connective::And);
+            let first = reads(q, b, left, wanted == (by != Connective::Implies));
+            if first != both {
+                return first;
+            }
+            reads(q, b, right, wanted)
         }
-        return left;
+        Node::Comparison {
+            by,
+            variable,
+            operand,
+        } => compared(q.device.table, b, by, variable, operand, wanted),
+        Node::Quantifier {
+            by,
+            over,
+            name,
+            body,
+        } => {
+            let parent = parent_under(b, over);
+            let all = wanted == (by == Quantifier::Every);
+            let s = Asked {
+                q,
+                b,
+                parent,
+                name,
+                body,
+                wanted,
+                all,
+            };
+            if let Some(row) = parent {
+                let end = q.device.families[row].end as usize;
+                return sweep(&s, row + 1, end - (row + 1));
+            }
+            // Its rows may be elsewhere: only its body with the variable elsewhere settles it, and only an own root decides it.
+            if all {
+                return reads(q, b.bind(0), body, wanted);
+            }
+            if let Over::Under(_) = over {
+                return false;
+            }
+            // What settles it elsewhere does so for each own root: then none is looked at.
+            if reads(q, b.bind(0), body, !wanted) {
+                return false;
+            }
+            sweep(&s, 0, q.device.table.len() / ROW_WORDS)
+        }
     }
-    if 6 < e.kind {
-        return compared(table, b, e, wanted);
-    }
-    let place = place_under(b, e.b as usize);
-    if place != 0 {
-        let end = ends[place - 1] as usize;
-        return sweep(rule, table, ends, b, entry, wanted, place, end - place);
-    }
-    // Its rows may be elsewhere: only its body with the variable elsewhere settles it, and only an own root decides it.
-    if wanted == (e.kind == 5) {
-        return reads(rule, table, ends, b.bind(0), a, wanted);
-    }
-    if e.b != 0 {
-        return false;
-    }
-    // What settles it elsewhere does so for each own root: then none is looked at.
-    if reads(rule, table, ends, b.bind(0), a, !wanted) {
-        return false;
-    }
-    sweep(rule, table, ends, b, entry, wanted, 0, row_count(table))
 }
 
-// Whether the bodies of those of `rows` rows from `row` on that a quantifier ranges over together read the wanted value, by halves of those
-// from the first one on.
+// Whether those of `rows` rows from `row` on that a quantifier ranges over are as wanted, by halves of those from the first one on.
 #[cycle(reads_sweep)]
-fn sweep(
-    rule: &[u32],
-    table: &[u32],
-    ends: &[u16],
-    b: Bindings,
-    entry: usize,
-    wanted: bool,
-    row: usize,
-    rows: usize,
-) -> bool
-    requires ready_sweep { ReadySweep rule.now table.now b entry row rows }
-    requires ends { Ends table.now ends.now }
-    ensures { result ≡ sweeps_at rule.now table.now b entry wanted row rows }
+fn sweep(s: &Asked<'_>, row: usize, rows: usize) -> bool
+    requires { ReadySweep s.now.q.now.rule.now s.now.q.now.device.table.now s.now.b s.now.parent s.now.body row rows }
+    ensures { result ≡ sweeps_at s.now.q.now.rule.now s.now.q.now.device.table.now s.now.b s.now.parent s.now.name s.now.body s.now.wanted s.now.all row rows }
 {
-    let e = entry_at(rule, entry);
-    let all = wanted == (e.kind == 5);
-    let first = next_ranged(table, place_under(b, e.b as usize), e.c, row, rows);
-    let left = row + rows - first;
-    if left == 0 {
-        return all;
+    let q = s.q;
+    let Some(before) = next_ranged(q.device.table, s.parent, s.name, row, rows) else {
+        return s.all;
+    };
+    let first = row + before;
+    let left = rows - before;
+    if left == 1 {
+        return reads(q, s.b.bind(first + 1), s.body, s.wanted);
     }
-    if 1 < left {
-        let half = left / 2;
-        let near = sweep(rule, table, ends, b, entry, wanted, first, half);
-        if near == all {
-            return sweep(
-                rule,
-                table,
-                ends,
-                b,
-                entry,
-                wanted,
-                first + half,
-                left - half,
-            );
-        }
+    let half = left / 2;
+    let near = sweep(s, first, half);
+    if near != s.all {
         return near;
     }
-    reads(rule, table, ends, b.bind(first + 1), e.a as usize, wanted)
+    sweep(s, first + half, left - half)
 }

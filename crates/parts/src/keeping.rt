@@ -1,71 +1,53 @@
 // Which rows of a device's table its part keeps.
-ghost use Rattle.std.specs.Prelude.{◌≡◌, ◌<◌, length, get_or};
+ghost use Rattle.std.specs.Prelude.{◌≡◌, ◌<◌, length};
 ghost use Rattle.tables.specs.Words.{row_at, row_count, rows};
-ghost use Rattle.tables.specs.Rules.{one};
+ghost use Rattle.tables.specs.Tables.{row_limit};
 ghost use Rattle.logic.specs.Formulas.{formulas_of};
-ghost use Rattle.parts.specs.Reaching.{Ends};
-ghost use Rattle.parts.specs.Keeping.{left_out, stays, ReadyPart, ReadyRow, Keeps};
+ghost use Rattle.parts.specs.Families.{OneDevice, family_at};
+ghost use Rattle.parts.specs.Modes.{word_of};
+ghost use Rattle.parts.specs.Keeping.{left_out, stays, ReadyRow, Keeps};
 
+use super::families::{Family, find_families};
+use super::modes::Mode;
 use super::omitting::omits_each;
-use super::parents::{find_ends, find_parents};
-use super::words::row_count;
-use tables::ROW_LIMIT;
+use super::question::Device;
+use sets::RuleSet;
+use tables::{ROW_LIMIT, ROW_WORDS};
 
 // Whether a row has a parent, and that does not stay.
-fn parent_left_out(parents: &[u16], kept: &[u8], row: usize) -> bool
-    requires row_in_bounds { row < length parents.now }
-    requires row_in_bounds_2 { get_or parents.now row 0 < length kept.now }
-    ensures { result ≡ left_out parents.now kept.now row }
+fn parent_left_out(families: &[Family], kept: &[bool], row: usize) -> bool
+    requires row_in_bounds { row < length families.now }
+    requires parent_in_bounds { (family_at families.now row).parent < length kept.now }
+    ensures { result ≡ left_out families.now kept.now row }
 {
-    let parent = parents[row] as usize;
-    if parent == row {
+    let parent = families[row].parent as usize;
+    parent != row && !kept[parent]
+}
+
+// Whether a row stays: it passes the mode's test, and it is a root or its parent stays.
+fn stays(set: &RuleSet<'_>, device: &Device<'_>, kept: &[bool], mode: Mode, row: usize) -> bool
+    requires { ReadyRow (formulas_of set.now.rules.now set.now.counts.now) device.now.table.now kept.now (word_of mode) row }
+    ensures { result ≡ stays (word_of mode) (formulas_of set.now.rules.now set.now.counts.now) (rows device.now.table.now) (row_at device.now.table.now row) }
+{
+    if parent_left_out(device.families, kept, row) {
         return false;
     }
-    kept[parent] == 0
+    mode == Mode::All || !omits_each(set, device, row, mode)
 }
 
-// 1 if a row stays, else 0. It stays if it passes the mode's test, and it is a root or its parent stays.
-fn kept_byte(
-    rules: &[u32],
-    counts: &[u32],
-    table: &[u32],
-    parents: &[u16],
-    ends: &[u16],
-    kept: &[u8],
-    mode: u32,
-    row: usize,
-) -> u8
-    requires ready_row { ReadyRow rules.now counts.now table.now parents.now kept.now mode row }
-    requires ends { Ends table.now ends.now }
-    ensures { result ≡ one (stays mode (formulas_of rules.now counts.now) (rows table.now) (row_at table.now row)) }
+// Writes that of each row.
+pub(crate) fn keep_rows(set: &RuleSet<'_>, table: &[u32], mode: Mode, kept: &mut [bool])
+    requires one_device { OneDevice table.now }
+    requires sized { length kept.old ≡ row_limit }
+    ensures { Keeps (formulas_of set.now.rules.now set.now.counts.now) table.now (word_of mode) kept.new (row_count table.now) }
 {
-    if parent_left_out(parents, kept, row) {
-        return 0;
+    let mut families = [Family { parent: 0, end: 0 }; ROW_LIMIT];
+    find_families(table, &mut families);
+    let device = Device {
+        table,
+        families: &families,
+    };
+    for row in 0..table.len() / ROW_WORDS {
+        kept[row] = stays(set, &device, kept, mode, row);
     }
-    if mode == 1 {
-        return 1;
-    }
-    if omits_each(rules, counts, table, parents, ends, row, mode) {
-        return 0;
-    }
-    1
-}
-
-// That byte of each row.
-pub(crate) fn kept_rows(rules: &[u32], counts: &[u32], table: &[u32], mode: u32) -> [u8; ROW_LIMIT]
-    requires { ReadyPart rules.now counts.now table.now }
-    ensures { Keeps (formulas_of rules.now counts.now) table.now mode result (row_count table.now) }
-{
-    let mut parents = [0u16; ROW_LIMIT];
-    find_parents(table, &mut parents);
-    let mut ends = [0u16; ROW_LIMIT];
-    find_ends(table, &parents, &mut ends);
-    let n = row_count(table);
-    let mut kept = [0u8; ROW_LIMIT];
-    let mut i = 0;
-    while i < n {
-        kept[i] = kept_byte(rules, counts, table, &parents, &ends, &kept, mode, i);
-        i += 1;
-    }
-    kept
 }

@@ -4,11 +4,12 @@
 mod calls;
 mod chains;
 mod device;
+mod families;
 mod keeping;
+mod modes;
 mod omitting;
-mod parents;
+mod question;
 mod ranges;
 mod sending;
-mod words;
 
 pub use calls::{part, part_size, set_part};

@@ -1,67 +1,63 @@
-// The rows that a quantifier ranges over, by the place of their parent: 0 for roots, else 1 + the parent's number.
-ghost use Rattle.std.specs.Prelude.{◌≡◌, ℕ, ◌+◌, ◌<◌, ◌≤◌, get_or};
-ghost use Rattle.base.specs.Search.{first};
-ghost use Rattle.tables.specs.Words.{row_count};
+// The rows that a quantifier ranges over: roots, or those whose parent is a bound row.
+ghost use Rattle.std.specs.Prelude.{◌≡◌, ℕ, ◌+◌, ◌<◌, ◌≤◌, get_or, IfSome};
+ghost use Rattle.base.specs.Search.{found};
+ghost use Rattle.tables.specs.Words.{row_at, row_count};
 ghost use Rattle.tables.specs.Rules.{nesting_limit};
-ghost use Rattle.engine.specs.Ready.{place_under, hangs_at, ranged_at};
+ghost use Rattle.parts.specs.Ranges.{row_of, OverBound, parent_under, hangs_at, ranged};
 
-use super::words::row_at;
 use engine::{Bindings, is_named};
-use tables::{Row, is_parent};
+use tables::{Over, Row, is_parent, row_at};
 
-// The place of a variable: 0 for elsewhere, else 1 + the row's number.
-pub(crate) fn place_of(b: Bindings, variable: usize) -> usize
+// The row of a variable, unless it is elsewhere.
+// Kept: the engine's `Bindings::row_of` does the same, but it is private to the engine.
+pub(crate) fn row_of(b: Bindings, variable: usize) -> Option<usize>
     requires { variable < nesting_limit }
-    ensures { result ≡ get_or b.row variable 0 }
+    ensures { result ≡ row_of b.row variable }
 {
-    b.row[variable] as usize
+    (b.row[variable] as usize).checked_sub(1)
 }
 
-// The place of the parent that b of a quantifier names: 0 for roots, and where it is elsewhere.
-pub(crate) fn place_under(b: Bindings, under: usize) -> usize
-    requires { under ≤ nesting_limit }
-    ensures { result ≡ place_under b.row under }
+// The parent of the rows that a quantifier ranges over: none for roots, and where it is elsewhere.
+pub(crate) fn parent_under(b: Bindings, over: Over) -> Option<usize>
+    requires { OverBound over }
+    ensures { result ≡ parent_under b.row over }
 {
-    if under == 0 {
-        return 0;
+    match over {
+        Over::Roots => None,
+        Over::Under(variable) => row_of(b, variable),
     }
-    place_of(b, under - 1)
 }
 
-// Whether a row is a root, where the place is 0, or hangs under the row at that place.
-fn hangs_at(table: &[u32], place: usize, r: Row) -> bool
-    requires { place ≤ row_count table.now }
-    ensures { result ≡ hangs_at table.now place r }
+// Whether a row hangs under that parent, or is a root where there is none.
+fn hangs(table: &[u32], parent: Option<usize>, r: Row) -> bool
+    requires { IfSome parent (λ p. p < row_count table.now) }
+    ensures { result ≡ hangs_at table.now parent r }
 {
-    if place == 0 {
-        return r.up == 0;
+    match parent {
+        None => r.up == 0,
+        Some(row) => is_parent(r, row_at(table, row)),
     }
-    is_parent(r, row_at(table, place - 1))
 }
 
 // Whether it ranges over a row.
-fn ranged(table: &[u32], place: usize, name: u32, row: usize) -> bool
-    requires { (place ≤ row_count table.now) × (row < row_count table.now) }
-    ensures { result ≡ ranged_at table.now place name row }
+fn ranged(table: &[u32], parent: Option<usize>, name: u32, row: usize) -> bool
+    requires { (IfSome parent (λ p. p < row_count table.now)) × (row < row_count table.now) }
+    ensures { result ≡ ranged table.now parent name (row_at table.now row) }
 {
     let r = row_at(table, row);
-    if !hangs_at(table, place, r) {
-        return false;
-    }
-    is_named(name, r)
+    hangs(table, parent, r) && is_named(name, r)
 }
 
-// The first of `rows` rows from `row` on that it ranges over, or the end.
-pub(crate) fn next_ranged(table: &[u32], place: usize, name: u32, row: usize, rows: usize) -> usize
-    requires { (place ≤ row_count table.now) × (row + rows ≤ row_count table.now) }
-    ensures { result ≡ row + first (λ (j : ℕ). ranged_at table.now place name (row + j)) rows }
+// How many of `rows` rows from `row` on stand before the first that it ranges over, if there is one.
+pub(crate) fn next_ranged(
+    table: &[u32],
+    parent: Option<usize>,
+    name: u32,
+    row: usize,
+    rows: usize,
+) -> Option<usize>
+    requires { (IfSome parent (λ p. p < row_count table.now)) × (row + rows ≤ row_count table.now) }
+    ensures { result ≡ found (λ (j : ℕ). ranged table.now parent name (row_at table.now (row + j))) rows }
 {
-    let mut i = 0;
-    while i < rows {
-        if ranged(table, place, name, row + i) {
-            return row + i;
-        }
-        i += 1;
-    }
-    row + rows
+    (0..rows).find(|&i| ranged(table, parent, name, row + i))
 }

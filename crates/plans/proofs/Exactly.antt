@@ -20,13 +20,14 @@ use Rattle.tables.specs.Answers.{is_done, unless}
 use Rattle.tables.specs.Words.{row_words, row_at, row_count, rows}
 use Rattle.tables.specs.Tables.{same_row, is_above, accepted_table}
 use Rattle.tables.specs.declared.Row.{Row}
-use Rattle.tables.specs.declared.Answer.{Answer}
-use Rattle.tables.specs.declared.Answer.TheVariants.{Done}
+use Rattle.tables.specs.Answers.{Answer}
+use Rattle.tables.specs.Answers.{Done}
 use Rattle.tables.proofs.Accepted.{ordered, whole_rows}
 use Rattle.tables.proofs.Ordered.{placed}
 use Rattle.tables.proofs.OrderedRows.{is_above_lem, Key, above_key, Rising, rising_across, rows_above, rows_parented}
 use Rattle.plans.specs.Plans.{step_words, kind_of, setting, adding, removing, step_row, place_for, is_there, step_place, with_value, after_set, after_remove, table_after, ThereExactly, SameNeeds, OnlyNeeded, OnlyThatRow}
 use Rattle.plans.proofs.Changes.{after_set_lem, after_remove_lem, by_kind, row_same, set_adds_none, remove_adds_none, front, behind_it, from_it, rows_before_lem, rows_around, rows_set, rows_add, rows_remove}
+use Rattle.tables.specs.declared.Fault.TheVariants.{Step, Absent, Removal}
 
 and-false : (b : Bool) → (b && false) ≡ false
 and-false true = refl
@@ -181,8 +182,8 @@ module _ (t : List ℕ) where
   -- what 23 to 25 answer, by length, kind, device and at
   abbrev answer_by : ℕ → ℕ → ℕ → ℕ → Answer
   answer_by l k d a =
-      unless (leb step_words l && (eqb k 1 || (eqb k 2 || eqb k 3))) 23
-      (unless (eqb k 2 || there_by d a) 24 (unless (not (eqb k 3 && under_by d a)) 25 (Done (place_by d a))))
+      unless (leb step_words l && (eqb k 1 || (eqb k 2 || eqb k 3))) Step
+      (unless (eqb k 2 || there_by d a) Absent (unless (not (eqb k 3 && under_by d a)) Removal (Done (place_by d a))))
 
   module _ (s s' : List ℕ) (same : SameNeeds s s') where
     same_answer : step_place t s ≡ step_place t s'

@@ -1,4 +1,3 @@
-pub mod Finding
 pub mod Splices
 pub mod Changes
 pub mod Exactly

@@ -1,15 +1,16 @@
 -- 02, wish 8: a plan is a list of steps, each one setting a row's value, adding a row in its place, or removing a row; what a step does
 -- to a table, and 23 to 25. Assumes nothing.
-use Rattle.std.specs.Prelude.{ℕ, zero, suc, ◌+◌, ◌-◌, ◌*◌, ◌/◌, ◌≡◌, Bool, true, false, not, cond, ◌&&◌, ◌||◌, List, [], ◌∷◌, ◌++◌, map, length, get_or, take, drop, eqb, ltb, leb}
+use Rattle.std.specs.Prelude.{ℕ, zero, suc, ◌+◌, ◌-◌, ◌*◌, ◌/◌, ◌≡◌, Bool, true, false, not, cond, ◌&&◌, ◌||◌, List, [], ◌∷◌, ◌++◌, map, length, get_or, take, drop, eqb, ltb, leb, Result, Ok, Err}
 use Rattle.base.specs.Lists.{◌∈◌, select}
 use Rattle.base.specs.Search.{first, some}
-use Rattle.tables.specs.Answers.{and_then, unless, fitting, is_done, value, output}
+use Rattle.tables.specs.Answers.{and_then, unless, fitting, is_done, output}
 use Rattle.tables.specs.Words.{row_words, row_at, row_count, rows, columns_of}
 use Rattle.tables.specs.Tables.{same_row, is_parent, is_above, accepted_table}
 use Rattle.tables.specs.declared.Row.{Row}
-use Rattle.tables.specs.declared.Answer.{Answer}
-use Rattle.tables.specs.declared.Answer.TheVariants.{Done}
+use Rattle.tables.specs.Answers.{Answer, Done}
+use Rattle.tables.specs.declared.refusals.Refusal.{Refusal}
 use Rattle.plans.specs.declared.Change.{Change}
+use Rattle.tables.specs.declared.Fault.TheVariants.{Step, Absent, Removal}
 
 -- ---- steps
 -- a step is a kind word and the words of a row
@@ -72,9 +73,9 @@ is_step s = leb step_words (length s) && (setting s || (adding s || removing s))
 -- under it, in this order; else the place of the step's row
 unfoldable pub step_place : List ℕ → List ℕ → Answer
 step_place t s =
-    unless (is_step s) 23
-    (unless (adding s || is_there t (step_row s)) 24
-    (unless (not (removing s && has_under t (step_row s))) 25
+    unless (is_step s) Step
+    (unless (adding s || is_there t (step_row s)) Absent
+    (unless (not (removing s && has_under t (step_row s))) Removal
     (Done (place_for t (step_row s)))))
 
 -- ---- the table after a step
@@ -104,13 +105,16 @@ table_after t s =
     let p = place_for t (step_row s) in
     cond (setting s) (after_set p (step_row s).value t) (cond (adding s) (after_add p (step_row s) t) (after_remove p t))
 
--- ---- the call: the number of words of the table after, or the refusal, 17 for a short output; and the place of the step's row, 0 where
--- 23 to 25 refuse it
+-- ---- the call: the number of words of the table after, or the refusal, 17 for a short output; and the place of the step's row
 abbrev pub change_answer : List ℕ → List ℕ → ℕ → Answer
 change_answer t s room = and_then (step_place t s) (fitting (table_after t s) room)
 
-abbrev pub changed : List ℕ → List ℕ → ℕ → Change
-changed t s room = record { answer = change_answer t s room; row = value (step_place t s) }
+abbrev pub change_with : ℕ → Answer → Result Change Refusal
+change_with row (Done words) = Ok (record { words = words; row = row })
+change_with row (Err r) = Err r
+
+abbrev pub changed : List ℕ → List ℕ → ℕ → Result Change Refusal
+changed t s room = change_with (place_for t (step_row s)) (change_answer t s room)
 
 abbrev pub change_out : List ℕ → List ℕ → List ℕ → List ℕ
 change_out t s out = output (change_answer t s (length out)) (table_after t s) out

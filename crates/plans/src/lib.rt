@@ -5,13 +5,12 @@ mod changing;
 mod steps;
 
 pub use changing::apply;
-pub use steps::{ADD, REMOVE, SET, STEP_WORDS};
-use tables::Answer;
+pub use steps::{ADD, REMOVE, SET, STEP_WORDS, Step, StepKind, read_step, step_place};
 
-// What a step does to a table: the number of words of the table after, or the refusal, and the place of the step's row.
-#[derive(Clone, Copy)]
+// What a step does to a table: the number of words of the table after, and the place of the step's row.
+#[derive(Clone, Copy, PartialEq, Eq)]
 pub struct Change {
-    pub answer: Answer,
+    pub words: usize,
     pub row: usize,
 }
 

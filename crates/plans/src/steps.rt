@@ -1,9 +1,10 @@
 // A step's words, where its row stands in a table, and 23 to 25.
-ghost use Rattle.std.specs.Prelude.{◌≡◌, ◌<◌, ◌≤◌, length};
-ghost use Rattle.tables.specs.Words.{row_at, row_count};
-ghost use Rattle.plans.specs.Plans.{step_words, is_step, step_row, place_for, is_there, has_under, step_place};
+ghost use Rattle.std.specs.Prelude.{◌≡◌, false, MatchOption};
+ghost use Rattle.tables.specs.Words.{row_count};
+ghost use Rattle.plans.specs.Plans.{is_step, step_place, place_for, is_there, has_under};
+ghost use Rattle.plans.specs.Steps.{kind_in, IsRead, place_of};
 
-use tables::{AT, Answer, DEEP, DEVICE, NAME, ROW_WORDS, Row, UP, VALUE, is_above, is_parent};
+use tables::{Answer, Fault, ROW_WORDS, Refusal, Row, is_above, is_parent, row_at};
 
 // A step is a kind word and the words of a row.
 pub const STEP_WORDS: usize = ROW_WORDS + 1;
@@ -14,113 +15,93 @@ pub const ADD: u32 = 2;
 
 pub const REMOVE: u32 = 3;
 
-pub(crate) fn row_at(table: &[u32], i: usize) -> Row
-    requires { i < row_count table.now }
-    ensures { result ≡ row_at table.now i }
+// What a step does with its row.
+#[derive(Clone, Copy, PartialEq, Eq)]
+pub enum StepKind {
+    Set,
+    Add,
+    Remove,
+}
+
+#[derive(Clone, Copy)]
+pub struct Step {
+    pub kind: StepKind,
+    pub row: Row,
+}
+
+fn kind_in(word: u32) -> Option<StepKind>
+    ensures { result ≡ kind_in word }
 {
-    Row {
-        device: table[ROW_WORDS * i + DEVICE],
-        at: table[ROW_WORDS * i + AT],
-        up: table[ROW_WORDS * i + UP],
-        deep: table[ROW_WORDS * i + DEEP],
-        name: table[ROW_WORDS * i + NAME],
-        value: table[ROW_WORDS * i + VALUE],
+    match word {
+        SET => Some(StepKind::Set),
+        ADD => Some(StepKind::Add),
+        REMOVE => Some(StepKind::Remove),
+        _ => None,
     }
 }
 
-// The row of a step, behind its kind word.
-pub(crate) fn step_row(step: &[u32]) -> Row
-    requires { step_words ≤ length step.now }
-    ensures { result ≡ step_row step.now }
+// The step that words stand for, unless some lack or the kind is unknown: 23.
+pub fn read_step(words: &[u32]) -> Option<Step>
+    ensures { MatchOption result (is_step words.now ≡ false) (λ step. IsRead words.now step) }
 {
-    Row {
-        device: step[1 + DEVICE],
-        at: step[1 + AT],
-        up: step[1 + UP],
-        deep: step[1 + DEEP],
-        name: step[1 + NAME],
-        value: step[1 + VALUE],
+    if words.len() < STEP_WORDS {
+        return None;
     }
+    let kind = kind_in(words[0])?;
+    let row = row_at(&words[1..], 0);
+    Some(Step { kind, row })
 }
 
 // The first row that a row isn't above, or the number of rows.
-fn place_for(table: &[u32], r: Row) -> usize
-    ensures { result ≡ place_for table.now r }
+fn place_for(table: &[u32], row: Row) -> usize
+    ensures { result ≡ place_for table.now row }
 {
     let n = table.len() / ROW_WORDS;
-    let mut i = 0;
-    while i < n {
-        if !is_above(r, row_at(table, i)) {
-            return i;
-        }
-        i += 1;
-    }
-    n
+    (0..n)
+        .find(|&i| !is_above(row, row_at(table, i)))
+        .unwrap_or(n)
 }
 
 // Whether the row at its place is the row itself.
-fn is_there(table: &[u32], r: Row, place: usize) -> bool
-    requires { place ≡ place_for table.now r }
-    ensures { result ≡ is_there table.now r }
+#[tactic(auto, using(base::proofs::Search::first_le))]
+fn is_there(table: &[u32], row: Row, place: usize) -> bool
+    requires { place ≡ place_for table.now row }
+    ensures { result ≡ is_there table.now row }
 {
-    if place < table.len() / ROW_WORDS {
-        let p = row_at(table, place);
-        return (p.device == r.device) & (p.at == r.at);
+    if place == table.len() / ROW_WORDS {
+        return false;
     }
-    false
+    let there = row_at(table, place);
+    there.device == row.device && there.at == row.at
 }
 
 // Whether some row is under it.
-fn has_under(table: &[u32], r: Row) -> bool
-    ensures { result ≡ has_under table.now r }
+fn has_under(table: &[u32], row: Row) -> bool
+    ensures { result ≡ has_under table.now row }
 {
-    let n = table.len() / ROW_WORDS;
-    let mut i = 0;
-    while i < n {
-        if is_parent(row_at(table, i), r) {
-            return true;
-        }
-        i += 1;
-    }
-    false
+    (0..table.len() / ROW_WORDS).any(|i| is_parent(row_at(table, i), row))
 }
 
-// Whether a step has all its words and a known kind.
-#[tactic(auto, using(crate::proofs::Finding::lacking, crate::proofs::Finding::having))]
-fn is_step(step: &[u32]) -> bool
-    ensures { result ≡ is_step step.now }
+// 24, 25, or the place of the step's row.
+pub(crate) fn place_of(table: &[u32], step: Step) -> Answer
+    ensures { result ≡ place_of table.now step }
 {
-    if step.len() < STEP_WORDS {
-        return false;
+    let place = place_for(table, step.row);
+    if step.kind != StepKind::Add && !is_there(table, step.row, place) {
+        return Err(Refusal::of(Fault::Absent));
     }
-    let kind = step[0];
-    (kind == SET) | ((kind == ADD) | (kind == REMOVE))
+    if step.kind == StepKind::Remove && has_under(table, step.row) {
+        return Err(Refusal::of(Fault::Removal));
+    }
+    Ok(place)
 }
 
-// 23, 24, 25, or the place of the step's row.
-pub(crate) fn step_place(table: &[u32], step: &[u32]) -> Answer
+// The place of a step's row, or the refusal of the step: also what `apply` doesn't tell where its output is too short.
+pub fn step_place(table: &[u32], step: &[u32]) -> Answer
     ensures { result ≡ step_place table.now step.now }
 {
-    if !is_step(step) {
-        return Answer::Refused {
-            number: 23,
-            place: 0,
-        };
-    }
-    let kind = step[0];
-    let r = step_row(step);
-    let place = place_for(table, r);
-    if (kind != ADD) & !is_there(table, r, place) {
-        return Answer::Refused {
-            number: 24,
-            place: 0,
-        };
-    }
-    if (kind == REMOVE) & has_under(table, r) {
-        return Answer::Refused {
-            number: 25,
-            place: 0,
-        };
-    }
-    Answer::Done(place)
+    let Some(step) = read_step(step) else {
+        return Err(Refusal::of(Fault::Step));
+    };
+    place_of(table, step)
 }

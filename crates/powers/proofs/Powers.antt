@@ -15,24 +15,20 @@ use Rattle.base.proofs.Search.{none_at}
 use Rattle.powers.specs.Powers.{word_digits, power_at, digit_at, Subtracted}
 use Rattle.powers.specs.declared.Digit.{Digit}
 
--- ---- the table
+-- the table of the source, entry by entry
 abbrev powers : List ℕ
 powers = 1 ∷ 10 ∷ 100 ∷ 1000 ∷ 10000 ∷ 100000 ∷ 1000000 ∷ 10000000 ∷ 100000000 ∷ 1000000000 ∷ []
 
 abbrev is_wrong : ℕ → Bool
 is_wrong i = not (eqb (get_or powers i 0) (10 ^ i))
 
--- each entry is its power, computed once over the table
 none_wrong : some is_wrong word_digits ≡ false
 unfolding first_from
 none_wrong = refl
 
-powers_of_ten : (i : ℕ) → i < word_digits → get_or powers i 0 ≡ 10 ^ i
+pub powers_of_ten : (i : ℕ) → i < word_digits → get_or powers i 0 ≡ 10 ^ i
 powers_of_ten i h =
     eqb-true (get_or powers i 0) (10 ^ i) (not-false (eqb (get_or powers i 0) (10 ^ i)) (none_at is_wrong word_digits i none_wrong h))
-
-pub entry_is : (i j : ℕ) → j ≡ min i (word_digits - 1) → get_or powers j 0 ≡ power_at i
-entry_is i j e = powers_of_ten j (omega arith) ∙ ap (λ (n : ℕ). 10 ^ n) e
 
 pub power_is : (i : ℕ) → i < word_digits → power_at i ≡ 10 ^ i
 power_is i h = ap (λ (n : ℕ). 10 ^ n) (omega arith)

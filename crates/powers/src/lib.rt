@@ -25,13 +25,11 @@ pub struct Digit {
 pub fn power(i: usize) -> u32
     ensures { result ≡ power_at i }
 {
-    if i < WORD_DIGITS {
-        return POWERS[i];
-    }
-    POWERS[LAST]
+    POWERS.get(i).copied().unwrap_or(POWERS[LAST])
 }
 
 // The digit of v at the power i, where v has none above it: the power is subtracted until less than it is left.
+// Kept: the kit's `itoa` divides, and small collectors can't afford a division for each digit.
 pub fn digit_at(v: u32, i: usize) -> Digit
     ensures digit { result ≡ digit_at v i }
     ensures subtracted { Subtracted v i result }
@@ -43,8 +41,5 @@ pub fn digit_at(v: u32, i: usize) -> Digit
         rest -= p;
         times += 1;
     }
-    Digit {
-        times: times,
-        rest: rest,
-    }
+    Digit { times, rest }
 }

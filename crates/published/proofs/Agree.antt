@@ -16,15 +16,25 @@ use Rattle.tables.specs.Words.{rows}
 use Rattle.tables.specs.Rules.{one, any_name, check_rule, accepted_rule}
 use Rattle.tables.specs.Tables.{root, check_table, accepted_table}
 use Rattle.tables.specs.declared.Row.{Row}
-use Rattle.tables.specs.declared.Answer.{Answer}
-use Rattle.tables.specs.declared.Answer.TheVariants.{Done}
+use Rattle.tables.specs.Answers.{Answer}
+use Rattle.tables.specs.Answers.{Done}
 use Rattle.tables.proofs.Answers.{and_then_passed, unless_passed}
 use Rattle.tables.proofs.Accepted.{parent_device, parent_at}
 use Rattle.sets.specs.Sets.{rules_of, accepted_set}
 use Rattle.sets.proofs.Sets.{rule_accepted}
 use Rattle.templates.specs.Templates.{written}
 use Rattle.templates.proofs.Ordinary.{fills_to_rules}
-use Rattle.logic.specs.Formulas.{Formula, negation, joined, quantified, compared, Connective, and, or, implies, Quantifier, every, some, Comparison, equal, less, at_most, Over, roots, under, Operand, variable, constant, formula, formulas_of}
+use Rattle.logic.specs.Formulas.{Formula, negation, joined, quantified, compared, formula, formulas_of}
+use Rattle.tables.specs.declared.Quantifier.{Quantifier}
+use Rattle.tables.specs.declared.Quantifier.TheVariants.{Every, Exists}
+use Rattle.tables.specs.declared.Connective.{Connective}
+use Rattle.tables.specs.declared.Connective.TheVariants.{And, Or, Implies}
+use Rattle.tables.specs.declared.Comparison.{Comparison}
+use Rattle.tables.specs.declared.Comparison.TheVariants.{Equal, Less, AtMost}
+use Rattle.tables.specs.declared.Over.{Over}
+use Rattle.tables.specs.declared.Over.TheVariants.{Roots, Under}
+use Rattle.tables.specs.declared.Operand.{Operand}
+use Rattle.tables.specs.declared.Operand.TheVariants.{Variable, Constant}
 use Rattle.logic.specs.Verdict.{connect, compare, Place, bound, Bindings, none_bound, bind, named, hangs, ranges, settled, both, fold}
 use Rattle.logic.specs.Verdict.{value_at, value_of, holds, verdict, verdict_answer, verdict_bytes, set_verdicts_answer, set_verdicts_out}
 use Rattle.logic.specs.Trial.{trial_outcome, state_at, bytes_of}
@@ -39,6 +49,7 @@ use Rattle.published.proofs.Rows.{Fit, fit}
 use Rattle.published.proofs.Table.{v_is}
 use Rattle.published.proofs.Descent.{child, pair_of, at_top, Siblings, step}
 use Rattle.published.proofs.Scoped.{scoped, over_bound, operand_bound, rule_scoped}
+use Rattle.tables.specs.declared.Fault.TheVariants.{ShortOutput}
 
 root_siblings : Siblings root
 root_siblings r s e h n k =
@@ -56,16 +67,16 @@ child_siblings p r s e h n k =
 -- ---- each kind of formula, on pairs and on rows
 -- a quantifier's truth from its body's
 abbrev truth : {A : Type 0} → Quantifier → (A → Bool) → List A → Bool
-truth every f xs = all f xs
-truth some f xs = any f xs
+truth Every f xs = all f xs
+truth Exists f xs = any f xs
 
 truth_none : {A : Type 0} (q : Quantifier) (f : A → Bool) → truth q f [] ≡ settled q
-truth_none every f = refl
-truth_none some f = refl
+truth_none Every f = refl
+truth_none Exists f = refl
 
 truth_more : {A : Type 0} (q : Quantifier) (f : A → Bool) (x : A) (xs : List A) → truth q f (x ∷ xs) ≡ both q (f x) (truth q f xs)
-truth_more every f x xs = refl
-truth_more some f x xs = refl
+truth_more Every f x xs = refl
+truth_more Exists f x xs = refl
 
 -- of elements that rows have, by what the body is at each row
 truth_is : {A : Type 0} (q : Quantifier) (h : Row → A) (f : A → Bool) (g : Row → Bool) (rs : List Row) → ((r : Row) → r ∈ rs → f (h r) ≡ g r)
@@ -77,13 +88,13 @@ truth_is q h f g (r ∷ rs) k =
 
 named_is : (q : Quantifier) (T : Tree) (path : Path) (p : ℕ) (φ : ℕ → CL) → (T ⊨ over_named q path p φ) ≡ truth q (λ k. T ⊨ φ k) (v T path p)
 unfolding ◌⊨◌
-named_is every T path p φ = refl
-named_is some T path p φ = refl
+named_is Every T path p φ = refl
+named_is Exists T path p φ = refl
 
 any_name_is : (q : Quantifier) (T : Tree) (path : Path) (φ : Pair → CL) → (T ⊨ over_any q path φ) ≡ truth q (λ x. T ⊨ φ x) (pairs T path)
 unfolding ◌⊨◌
-any_name_is every T path φ = refl
-any_name_is some T path φ = refl
+any_name_is Every T path φ = refl
+any_name_is Exists T path φ = refl
 
 -- the values under a name are those of the rows that have it
 values_are : (T : Tree) (path : Path) (n : ℕ) (rs : List Row) → pairs T path ≡ map pair_of rs
@@ -116,15 +127,15 @@ quantifier_is q T path n φ g rs e h = go (eqb n any_name) refl
 
 connective_is : (c : Connective) (T : Tree) (φ ψ : CL) → (T ⊨ connective c φ ψ) ≡ connect c (T ⊨ φ) (T ⊨ ψ)
 unfolding ◌⊨◌
-connective_is and T φ ψ = refl
-connective_is or T φ ψ = refl
-connective_is implies T φ ψ = refl
+connective_is And T φ ψ = refl
+connective_is Or T φ ψ = refl
+connective_is Implies T φ ψ = refl
 
 comparison_is : (c : Comparison) (T : Tree) (k₁ k₂ : ℕ) → (T ⊨ comparison c k₁ k₂) ≡ compare c k₁ k₂
 unfolding ◌⊨◌
-comparison_is equal T k₁ k₂ = refl
-comparison_is less T k₁ k₂ = refl
-comparison_is at_most T k₁ k₂ = refl
+comparison_is Equal T k₁ k₂ = refl
+comparison_is Less T k₁ k₂ = refl
+comparison_is AtMost T k₁ k₂ = refl
 
 module _ (T : List Row) (f : Fit T) where
   -- the path leads to the rows that pass the test
@@ -150,8 +161,8 @@ module _ (T : List Row) (f : Fit T) where
 
   range : (o : Over) (d : ℕ) (e : Standings) (b : Bindings) → over_bound o d ≡ true → Agreeing d e b → Range o e b
   unfolding tree
-  range roots d e b s g = record { test = root; leads = λ on. refl; ranged = λ n. refl; siblings = root_siblings }
-  range (under x) d e b s g =
+  range Roots d e b s g = record { test = root; leads = λ on. refl; ranged = λ n. refl; siblings = root_siblings }
+  range (Under x) d e b s g =
       let w = g x (ltb-true x d s) in
       record { test = child w.row; leads = w.leads; ranged = λ n. ap {B = Row → Bool} (λ (at : Place) (r : Row). hangs at r && named n r) w.binds; siblings = child_siblings w.row }
 
@@ -185,8 +196,8 @@ module _ (T : List Row) (f : Fit T) where
   value_is w = ap value_at w.binds ∙ sym w.value
 
   term_is : (y : Operand) (d : ℕ) (e : Standings) (b : Bindings) → operand_bound y d ≡ true → Agreeing d e b → value_of b y ≡ term e y
-  term_is (variable x) d e b s g = value_is (g x (ltb-true x d s))
-  term_is (constant k) d e b s g = refl
+  term_is (Variable x) d e b s g = value_is (g x (ltb-true x d s))
+  term_is (Constant k) d e b s g = refl
 
   agree : (φ : Formula) (d : ℕ) (e : Standings) (b : Bindings) → scoped φ d ≡ true → Agreeing d e b → (tree T ⊨ stated φ d e) ≡ holds φ T d b
   unfolding ◌⊨◌ stated scoped holds
@@ -235,7 +246,7 @@ module _ (rules counts pool : List ℕ) (s : accepted_set rules counts ≡ true)
 
   module _ (out : List ℕ) (l : length counts ≤ length out) where
     fits : fitting bytes (length out) ≡ Done (length bytes)
-    fits = unless_passed (leb (length bytes) (length out)) 17 _ (le-leb (length bytes) (length out) (omega (arith, byte_count)))
+    fits = unless_passed (leb (length bytes) (length out)) ShortOutput _ (le-leb (length bytes) (length out) (omega (arith, byte_count)))
 
     pub set_bytes : (set_verdicts_answer rules counts pool (length out) ≡ Done (length counts))
         × (set_verdicts_out rules counts pool out ≡ map (λ rule. one (published rule pool)) (rules_of rules counts) ++ drop (length counts) out)

@@ -17,7 +17,7 @@ use Rattle.tables.specs.Answers.{is_done}
 use Rattle.tables.specs.Rules.{one, accepted_rule}
 use Rattle.tables.specs.Tables.{root, is_parent, accepted_table}
 use Rattle.tables.specs.declared.Row.{Row}
-use Rattle.tables.specs.declared.Answer.TheVariants.{Done}
+use Rattle.tables.specs.Answers.{Done}
 use Rattle.tables.proofs.Accepted as accepts
 use Rattle.tables.proofs.Accepted.{parent_device, parent_at}
 use Rattle.tables.proofs.Ordered.{Placed, placed, behind, length_ok}

@@ -11,17 +11,21 @@ use Rattle.base.proofs.Bools.{and_both}
 use Rattle.tables.specs.Words.{entry_at, entry_count}
 use Rattle.tables.specs.Rules.{to_constant, around_from, around, accepted_rule}
 use Rattle.tables.proofs.AcceptedRule.{kind_range, some_entry, child_later, child_depth, right_later, right_depth, body_depth, over_bound_lem, left_bound, right_bound}
-use Rattle.logic.specs.Formulas.{Formula, negation, joined, quantified, compared, Over, roots, under, Operand, variable, constant, over_of, operand_of, build, formula_at, formula}
+use Rattle.logic.specs.Formulas.{Formula, negation, joined, quantified, compared, over_of, operand_of, build, formula_at, formula}
+use Rattle.tables.specs.declared.Over.{Over}
+use Rattle.tables.specs.declared.Over.TheVariants.{Roots, Under}
+use Rattle.tables.specs.declared.Operand.{Operand}
+use Rattle.tables.specs.declared.Operand.TheVariants.{Variable, Constant}
 use Rattle.logic.proofs.Formulas.{formula_at_lem}
 
 -- ---- every variable is bound where it is used; d quantifiers stand around
 abbrev pub over_bound : Over → ℕ → Bool
-over_bound roots d = true
-over_bound (under x) d = ltb x d
+over_bound Roots d = true
+over_bound (Under x) d = ltb x d
 
 abbrev pub operand_bound : Operand → ℕ → Bool
-operand_bound (variable x) d = ltb x d
-operand_bound (constant k) d = true
+operand_bound (Variable x) d = ltb x d
+operand_bound (Constant k) d = true
 
 unfoldable pub scoped : Formula → ℕ → Bool
 scoped (negation φ) d = scoped φ d

@@ -12,8 +12,8 @@ use Rattle.tables.specs.Joining.{join_answer, join_pool}
 use Rattle.tables.specs.Files.{Format, rule_names, rule_format, pool_names, pool_format, count_names, read_answer, read_out, write_answer}
 use Rattle.tables.specs.Files.{write_out, write_counts, write_counts_out}
 use Rattle.tables.specs.declared.Row.{Row}
-use Rattle.tables.specs.declared.Answer.{Answer}
-use Rattle.tables.specs.declared.Answer.TheVariants.{Done, Refused}
+use Rattle.tables.specs.Answers.{Answer}
+use Rattle.tables.specs.Answers.{Done, Refused}
 use Rattle.sets.specs.Sets.{rules_of, check_set}
 use Rattle.templates.specs.Templates.{fill_answer, fill_out, written}
 use Rattle.folding.specs.Folding.{fold_answer, fold_out, folded_table}
@@ -32,6 +32,7 @@ use Rattle.published.specs.Inputs.{every_is_blank, house, below_second, each_bla
 use Rattle.published.specs.Inputs.{keeps_roots, roots_and_child, set_step, add_step, remove_step, second_server, ten_to, nines, text_then, line}
 use Rattle.published.specs.Inputs.{line_below, digit, limit_with, row_to, entry_to, short_line}
 use Rattle.published.specs.Stated.{published, published_template}
+use Rattle.tables.specs.declared.Fault.TheVariants.{RuleLength, Word, Child, Nesting, Unbound, TableLength, Range, Order, Parent, Sibling, Mode, OtherDevice, Join, ShortOutput, Line, Counts, Blank, Parameters, Depth, Rows}
 
 -- ---- what a case gives and expects
 -- a row by (device, at)
@@ -138,7 +139,7 @@ right (joins s t answer) =
 right (writes words bytes) =
     let file = count_names ++ bytes in
     same_answer (write_counts words (length file)) (Done (length file))
-    && same_answer (write_counts words (length file - 1)) (Refused 17 0)
+    && same_answer (write_counts words (length file - 1)) (Refused ShortOutput 0)
     && same_words (write_counts_out words (buffer (length file - 1))) (buffer (length file - 1))
     && same_words (write_counts_out words (buffer (length file + 1))) (file ++ buffer 1)
 right (filed names f check words bytes) =
@@ -146,21 +147,21 @@ right (filed names f check words bytes) =
     same_answer (read_answer names f file (length words)) (Done (length words))
     && same_words (read_out names f file (buffer (length words + 1))) (words ++ buffer 1)
     && same_answer (write_answer names f (check words) words (length file)) (Done (length file))
-    && same_answer (write_answer names f (check words) words (length file - 1)) (Refused 17 0)
+    && same_answer (write_answer names f (check words) words (length file - 1)) (Refused ShortOutput 0)
     && same_words (write_out names f (check words) words (buffer (length file + 1))) (file ++ buffer 1)
 right (unfiled names f bytes place) =
-    same_answer (read_answer names f (names ++ bytes) 8) (Refused 19 place)
+    same_answer (read_answer names f (names ++ bytes) 8) (Refused Line place)
     && same_words (read_out names f (names ++ bytes) (buffer 8)) (buffer 8)
 right (set_checked rules counts answer) = same_answer (check_set rules counts) answer
 right (set_judged rules counts pool bytes) =
     same_answer (set_verdicts_answer rules counts pool (length counts)) (Done (length bytes))
-    && same_answer (set_verdicts_answer rules counts pool (length counts - 1)) (Refused 17 0)
+    && same_answer (set_verdicts_answer rules counts pool (length counts - 1)) (Refused ShortOutput 0)
     && same_words (set_verdicts_out rules counts pool (buffer (length bytes + 1))) (bytes ++ buffer 1)
     && same_words (map (λ rule. one (published rule pool)) (rules_of rules counts)) bytes
 right (set_sends rules counts mode table sent) =
     same_answer (set_part_answer rules counts table mode (length sent)) (Done (row_count sent))
-    && same_answer (set_part_answer rules counts table mode (length sent - 1)) (cond (eqb (length sent) 0) (Done 0) (Refused 17 0))
-    && same_answer (set_part_answer rules counts table 4 0) (Refused 13 0)
+    && same_answer (set_part_answer rules counts table mode (length sent - 1)) (cond (eqb (length sent) 0) (Done 0) (Refused ShortOutput 0))
+    && same_answer (set_part_answer rules counts table 4 0) (Refused Mode 0)
     && same_words (set_part_out rules counts table mode (buffer (length table))) (sent ++ drop (length sent) (buffer (length table)))
 right (tries rules counts pool steps words bytes number place done table verdicts) =
     let r = trial_outcome rules counts pool steps words bytes in
@@ -170,7 +171,7 @@ right (tries rules counts pool steps words bytes number place done table verdict
     && same_words (drop (length counts * (done - 1)) verdicts) (cond (eqb done 0) [] (map (λ rule. one (published rule table)) (rules_of rules counts)))
 right (fills template parameters rule) =
     same_answer (fill_answer template parameters (length rule)) (Done (length rule))
-    && same_answer (fill_answer template parameters (length rule - 1)) (Refused 17 0)
+    && same_answer (fill_answer template parameters (length rule - 1)) (Refused ShortOutput 0)
     && same_words (fill_out template parameters (buffer (length rule + 1))) (rule ++ buffer 1)
     && is_done (check_rule rule)
 right (unfilled template parameters room answer) =
@@ -264,20 +265,20 @@ cases =
     ∷ rule_unfiled (line (entry_to 7 0 0 (limit_with 8)) ++ short_line) 3
     ∷ rule_unfiled (line_below (entry_to 7 0 1 (digit 5)) ++ line_below (entry_to 7 0 0 (digit 5))) 3
     -- (j)
-    ∷ table_checked (D1 ++ row 1 4 1 1 2 2) (Refused 12 3)
+    ∷ table_checked (D1 ++ row 1 4 1 1 2 2) (Refused Sibling 3)
     -- deep is wrong: 1 at a root; the parent's own; two more than the parent's; so large that one more would wrap
-    ∷ table_checked (row 1 1 0 1 1 11) (Refused 26 0)
-    ∷ table_checked (D1 ++ row 1 4 2 1 4 7) (Refused 26 3)
-    ∷ table_checked (D1 ++ row 1 4 2 3 4 7) (Refused 26 3)
+    ∷ table_checked (row 1 1 0 1 1 11) (Refused Depth 0)
+    ∷ table_checked (D1 ++ row 1 4 2 1 4 7) (Refused Depth 3)
+    ∷ table_checked (D1 ++ row 1 4 2 3 4 7) (Refused Depth 3)
     ∷ table_checked (D1 ++ row 1 4 2 2 4 7) (Done 4)
-    ∷ table_checked (row 1 1 0 4294967295 1 11 ++ row 1 2 1 0 2 2) (Refused 26 0)
-    ∷ table_checked (row 1 1 0 0 1 11 ++ row 1 2 1 4294967295 2 2) (Refused 26 1)
+    ∷ table_checked (row 1 1 0 4294967295 1 11 ++ row 1 2 1 0 2 2) (Refused Depth 0)
+    ∷ table_checked (row 1 1 0 0 1 11 ++ row 1 2 1 4294967295 2 2) (Refused Depth 1)
     -- after 11, wherever it stands, and before 12
-    ∷ table_checked (row 1 1 0 1 1 11 ++ row 1 2 3 1 2 2) (Refused 11 1)
-    ∷ table_checked (D1 ++ row 1 4 1 1 2 2 ++ row 1 5 4 1 4 7) (Refused 26 4)
+    ∷ table_checked (row 1 1 0 1 1 11 ++ row 1 2 3 1 2 2) (Refused Parent 1)
+    ∷ table_checked (D1 ++ row 1 4 1 1 2 2 ++ row 1 5 4 1 4 7) (Refused Depth 4)
     -- (k)
     ∷ rule_checked (nested 0 6) (Done 7)
-    ∷ rule_checked (nested 0 7) (Refused 6 6)
+    ∷ rule_checked (nested 0 7) (Refused Nesting 6)
     -- those side by side do not count
     ∷ rule_checked (beside 0 6) (Done 20)
     -- numbers of every width, on both sides of each power of ten, and the largest: five to a line
@@ -292,7 +293,7 @@ cases =
     ++ text_then 32 (nines 8) ++ text_then 32 (ten_to 8) ++ text_then 32 (nines 9) ++ text_then 32 (ten_to 9)
     ++ text_then 10 (4 ∷ 2 ∷ 9 ∷ 4 ∷ 9 ∷ 6 ∷ 7 ∷ 2 ∷ 9 ∷ 5 ∷ []))
     -- (l)
-    ∷ joins D2 D1 (Refused 16 0)
+    ∷ joins D2 D1 (Refused Join 0)
     ∷ joins D1 D2 (Done 30)
     -- the branch parts and all rows, beside (h)
     ∷ sends rule_b 2 D1 (row 1 1 0 0 1 11 ++ row 1 2 1 1 2 2)
@@ -352,9 +353,9 @@ cases =
     -- any name: 3 lets 0 pass in a quantifier and nothing above 65,535, and 9 refuses it in rows
     ∷ rule_checked (some_root_is 5) (Done 2)
     ∷ rule_checked (entry 6 1 0 65535 ++ entry 7 0 1 5) (Done 2)
-    ∷ rule_checked (entry 6 1 0 65536 ++ entry 7 0 1 5) (Refused 3 0)
-    ∷ table_checked (row 1 1 0 0 0 5) (Refused 9 0)
-    ∷ table_checked (row 1 1 0 0 1 5 ++ row 1 2 1 1 0 5) (Refused 9 1)
+    ∷ rule_checked (entry 6 1 0 65536 ++ entry 7 0 1 5) (Refused Word 0)
+    ∷ table_checked (row 1 1 0 0 0 5) (Refused Range 0)
+    ∷ table_checked (row 1 1 0 0 1 5 ++ row 1 2 1 1 0 5) (Refused Range 1)
     ∷ rule_filed (some_root_is 5) (line (entry_to 6 1 0 (digit 0)) ++ line (entry_to 7 0 1 (digit 5)))
     -- nothing under the interface equals 0: true; and false by one of two rows that have different names
     ∷ judged nothing_zero (interface_with 1500) true (key 1 1 ++ key 1 2 ++ key 1 3 ++ key 1 4)
@@ -375,7 +376,7 @@ cases =
     -- all quantifiers take any name, it gives a table the published truth of the same table with one name in all its rows. There the
     -- two are one value 5, a path through it leads below both, and the rule is true
     ∷ judged every_child_has_one (two_children 2 4 3) false (key 1 1 ++ key 1 4)
-    ∷ differs every_child_has_one (two_children 1 1 1) (Refused 12 3) true false
+    ∷ differs every_child_has_one (two_children 1 1 1) (Refused Sibling 3) true false
     -- two roots are 2, and a b that is 1 hangs under the first: the second makes the rule true; by values it would be one root, with that b
     ∷ judged some_equals_below (row 2 2 0 0 2 2 ++ row 2 5 0 0 1 2 ++ row 2 8 2 1 2 1) true (key 2 5)
     -- a template: b and c of the blanks become 1 and the parameter; b = 2 of the and is its child, b = 2 of a quantifier its parent's variable
@@ -397,46 +398,46 @@ cases =
     ∷ template_judged (house 2 0 2 0) (opposite 1 ∷ []) (row 1 1 0 0 1 11 ++ row 1 2 1 1 3 (opposite 2)) true
     ∷ template_judged (house 2 0 2 0) (opposite 1 ∷ []) (row 1 1 0 0 1 11 ++ row 1 2 1 1 3 5) false
     -- 3 allows b = 2 in templates only, whatever c is, and no other b above 1
-    ∷ rule_checked (every_is_blank 0) (Refused 3 1)
-    ∷ unfilled (entry 5 1 0 1 ++ entry 7 0 3 0) (5 ∷ []) 8 (Refused 3 1)
-    ∷ unfilled (every_is_blank 4294967295) (5 ∷ []) 8 (Refused 21 1)
+    ∷ rule_checked (every_is_blank 0) (Refused Word 1)
+    ∷ unfilled (entry 5 1 0 1 ++ entry 7 0 3 0) (5 ∷ []) 8 (Refused Word 1)
+    ∷ unfilled (every_is_blank 4294967295) (5 ∷ []) 8 (Refused Blank 1)
     -- 21 at the first entry whose number has no parameter, after 1 to 7
-    ∷ unfilled (every_is_blank 0) [] 8 (Refused 21 1)
-    ∷ unfilled (house 2 1 2 2) (5 ∷ []) 28 (Refused 21 5)
-    ∷ unfilled (house 2 0 2 1) (5 ∷ []) 28 (Refused 21 6)
-    ∷ unfilled (house 2 2 2 1) (5 ∷ []) 28 (Refused 21 5)
-    ∷ unfilled (entry 5 1 0 1 ++ entry 7 1 2 0) [] 8 (Refused 7 1)
+    ∷ unfilled (every_is_blank 0) [] 8 (Refused Blank 1)
+    ∷ unfilled (house 2 1 2 2) (5 ∷ []) 28 (Refused Blank 5)
+    ∷ unfilled (house 2 0 2 1) (5 ∷ []) 28 (Refused Blank 6)
+    ∷ unfilled (house 2 2 2 1) (5 ∷ []) 28 (Refused Blank 5)
+    ∷ unfilled (entry 5 1 0 1 ++ entry 7 1 2 0) [] 8 (Refused Unbound 1)
     -- 22: over 16 parameters, or one that is never used; after 21
     ∷ fills (each_blank 16) (replicate 16 5) (each_constant 16 5)
-    ∷ unfilled (each_blank 17) (replicate 17 5) 136 (Refused 22 0)
-    ∷ unfilled (every_is_blank 0) (5 ∷ 5 ∷ []) 8 (Refused 22 0)
-    ∷ unfilled (house 2 0 2 2) (5 ∷ 5 ∷ 5 ∷ []) 28 (Refused 22 0)
-    ∷ unfilled rule_a (5 ∷ []) 24 (Refused 22 0)
+    ∷ unfilled (each_blank 17) (replicate 17 5) 136 (Refused Parameters 0)
+    ∷ unfilled (every_is_blank 0) (5 ∷ 5 ∷ []) 8 (Refused Parameters 0)
+    ∷ unfilled (house 2 0 2 2) (5 ∷ 5 ∷ 5 ∷ []) 28 (Refused Parameters 0)
+    ∷ unfilled rule_a (5 ∷ []) 24 (Refused Parameters 0)
     -- a constant and a name with the number of a parameter do not use it
-    ∷ unfilled (house 1 0 1 0) (5 ∷ []) 28 (Refused 22 0)
-    ∷ unfilled (entry 5 1 0 1 ++ entry 5 2 1 2 ++ entry 5 3 2 0 ++ entry 7 2 1 4) (5 ∷ []) 16 (Refused 22 0)
-    ∷ unfilled (every_is_blank 20) (replicate 17 5) 8 (Refused 21 1)
-    ∷ unfilled (house 2 0 2 2) (5 ∷ 5 ∷ []) 28 (Refused 21 6)
+    ∷ unfilled (house 1 0 1 0) (5 ∷ []) 28 (Refused Parameters 0)
+    ∷ unfilled (entry 5 1 0 1 ++ entry 5 2 1 2 ++ entry 5 3 2 0 ++ entry 7 2 1 4) (5 ∷ []) 16 (Refused Parameters 0)
+    ∷ unfilled (every_is_blank 20) (replicate 17 5) 8 (Refused Blank 1)
+    ∷ unfilled (house 2 0 2 2) (5 ∷ 5 ∷ []) 28 (Refused Blank 6)
     -- 17 is last
-    ∷ unfilled (every_is_blank 0) (5 ∷ 5 ∷ []) 0 (Refused 22 0)
-    ∷ unfilled (every_is_blank 0) (5 ∷ []) 7 (Refused 17 0)
+    ∷ unfilled (every_is_blank 0) (5 ∷ 5 ∷ []) 0 (Refused Parameters 0)
+    ∷ unfilled (every_is_blank 0) (5 ∷ []) 7 (Refused ShortOutput 0)
     -- a set of rules: the number of rules
     ∷ set_checked (rule_a ++ rule_b) (6 ∷ 9 ∷ []) (Done 2)
     -- 20: no counts, more than 32, counts that don't add up, a leftover word, counts that add up modulo 2^32 alone
-    ∷ set_checked [] [] (Refused 20 0)
-    ∷ set_checked [] (replicate 33 0) (Refused 20 0)
-    ∷ set_checked (rule_a ++ rule_b) (6 ∷ 8 ∷ []) (Refused 20 0)
-    ∷ set_checked (rule_a ++ rule_b ++ 0 ∷ []) (6 ∷ 9 ∷ []) (Refused 20 0)
-    ∷ set_checked (every_is 1) (4294967295 ∷ 3 ∷ []) (Refused 20 0)
+    ∷ set_checked [] [] (Refused Counts 0)
+    ∷ set_checked [] (replicate 33 0) (Refused Counts 0)
+    ∷ set_checked (rule_a ++ rule_b) (6 ∷ 8 ∷ []) (Refused Counts 0)
+    ∷ set_checked (rule_a ++ rule_b ++ 0 ∷ []) (6 ∷ 9 ∷ []) (Refused Counts 0)
+    ∷ set_checked (every_is 1) (4294967295 ∷ 3 ∷ []) (Refused Counts 0)
     -- 1 has the place of its rule's first entry, also where the rule has none
-    ∷ set_checked [] (replicate 32 0) (Refused 1 0)
-    ∷ set_checked (every_is 1) (2 ∷ 0 ∷ []) (Refused 1 2)
-    ∷ set_checked (every_is 1 ++ replicate 516 0) (2 ∷ 129 ∷ []) (Refused 1 2)
+    ∷ set_checked [] (replicate 32 0) (Refused RuleLength 0)
+    ∷ set_checked (every_is 1) (2 ∷ 0 ∷ []) (Refused RuleLength 2)
+    ∷ set_checked (every_is 1 ++ replicate 516 0) (2 ∷ 129 ∷ []) (Refused RuleLength 2)
     -- places are counted from the first entry of the set, a child's number from its own rule's
-    ∷ set_checked (rule_a ++ nested 0 7) (6 ∷ 8 ∷ []) (Refused 6 12)
-    ∷ set_checked (every_is 1 ++ entry 5 3 0 1 ++ entry 7 0 1 1) (2 ∷ 2 ∷ []) (Refused 4 2)
+    ∷ set_checked (rule_a ++ nested 0 7) (6 ∷ 8 ∷ []) (Refused Nesting 12)
+    ∷ set_checked (every_is 1 ++ entry 5 3 0 1 ++ entry 7 0 1 1) (2 ∷ 2 ∷ []) (Refused Child 2)
     -- rule by rule: 7 of the first before 2 of the second
-    ∷ set_checked (entry 5 1 0 1 ++ entry 7 1 1 1 ++ entry 0 0 0 0) (2 ∷ 1 ∷ []) (Refused 7 1)
+    ∷ set_checked (entry 5 1 0 1 ++ entry 7 1 1 1 ++ entry 0 0 0 0) (2 ∷ 1 ∷ []) (Refused Unbound 1)
     -- one byte per rule
     ∷ set_judged (rule_a ++ rule_b) (6 ∷ 9 ∷ []) (D1 ++ D2) (1 ∷ 1 ∷ [])
     ∷ set_judged (rule_a ++ rule_b) (6 ∷ 9 ∷ []) (D1 ++ D2 ++ D3) (0 ∷ 1 ∷ [])
@@ -511,10 +512,10 @@ cases =
     ∷ in_columns 4 (5 ∷ 3 ∷ 3 ∷ 4 ∷ []) (5 ∷ 3 ∷ 3 ∷ 4 ∷ [])
     ∷ in_columns 0 [] []
     -- 28: not a whole number of rows, also where there is no room; else 17
-    ∷ unarchived (D1 ++ 7 ∷ []) 24 (Refused 28 0)
-    ∷ unarchived (1 ∷ 2 ∷ 3 ∷ 4 ∷ 5 ∷ []) 0 (Refused 28 0)
-    ∷ unarchived D1 17 (Refused 17 0)
-    ∷ unarchived (row 0 0 0 0 0 0) 0 (Refused 17 0)
+    ∷ unarchived (D1 ++ 7 ∷ []) 24 (Refused Rows 0)
+    ∷ unarchived (1 ∷ 2 ∷ 3 ∷ 4 ∷ 5 ∷ []) 0 (Refused Rows 0)
+    ∷ unarchived D1 17 (Refused ShortOutput 0)
+    ∷ unarchived (row 0 0 0 0 0 0) 0 (Refused ShortOutput 0)
     -- folding: an interface in two blocks; the later row goes, and its child hangs under the earlier one
     ∷ folds (row 1 1 0 0 1 11 ++ row 1 2 1 1 3 101 ++ row 1 3 2 2 4 1 ++ row 1 4 1 1 3 101 ++ row 1 5 4 2 5 2)
     (row 1 1 0 0 1 11 ++ row 1 2 1 1 3 101 ++ row 1 3 2 2 4 1 ++ row 1 5 2 2 5 2)
@@ -529,24 +530,24 @@ cases =
     ∷ folds D1 D1
     ∷ folds [] []
     -- 8 to 11 and 26 come before 14, which has the place of the row, and 17 is last; 12 is none of them
-    ∷ unfolded (D1 ++ D2) 30 (Refused 14 3)
-    ∷ unfolded (D1 ++ row 2 1 0 1 1 12) 24 (Refused 26 3)
-    ∷ unfolded (row 1 1 0 0 1 5 ++ row 2 1 0 0 1 5 ++ row 2 2 7 1 1 5) 18 (Refused 11 2)
-    ∷ unfolded (row 1 1 0 0 1 5 ++ row 1 1 0 0 1 5) 12 (Refused 10 1)
-    ∷ unfolded (D1 ++ D2) 0 (Refused 14 3)
-    ∷ unfolded (row 1 1 0 0 1 5 ++ row 1 2 0 0 1 5) 5 (Refused 17 0)
-    ∷ unfolded (D1 ++ 7 ∷ []) 0 (Refused 8 0)
+    ∷ unfolded (D1 ++ D2) 30 (Refused OtherDevice 3)
+    ∷ unfolded (D1 ++ row 2 1 0 1 1 12) 24 (Refused Depth 3)
+    ∷ unfolded (row 1 1 0 0 1 5 ++ row 2 1 0 0 1 5 ++ row 2 2 7 1 1 5) 18 (Refused Parent 2)
+    ∷ unfolded (row 1 1 0 0 1 5 ++ row 1 1 0 0 1 5) 12 (Refused Order 1)
+    ∷ unfolded (D1 ++ D2) 0 (Refused OtherDevice 3)
+    ∷ unfolded (row 1 1 0 0 1 5 ++ row 1 2 0 0 1 5) 5 (Refused ShortOutput 0)
+    ∷ unfolded (D1 ++ 7 ∷ []) 0 (Refused TableLength 0)
     -- the published truth on the rows as listed is the verdict on the folded ones; rows alone tell otherwise
     ∷ fold_judged every_has_one (row 1 1 0 0 1 5 ++ row 1 2 1 1 2 1 ++ row 1 3 0 0 1 5) true false
     ∷ fold_judged every_below_has_one (row 1 1 0 0 9 7 ++ row 1 2 1 1 1 5 ++ row 1 3 2 2 2 1 ++ row 1 4 1 1 1 5) true false
     -- folded tables of two devices with equal roots still meet 12 in joining, and so does a step that adds an equal sibling
-    ∷ joins (row 1 1 0 0 1 5) (row 2 1 0 0 1 5) (Refused 12 1)
+    ∷ joins (row 1 1 0 0 1 5) (row 2 1 0 0 1 5) (Refused Sibling 1)
     ∷ tries (every_is 1) (2 ∷ []) (row 1 1 0 0 1 1 ++ row 1 2 1 1 2 2) (add_step 1 3 1 1 2 2) 30 8 12 0 0 (row 1 1 0 0 1 1 ++ row 1 2 1 1 2 2) []
     -- without check 12 the sets of values and the rows differ: two nodes 1 = 5, of which one has a child; so on two
     -- devices, and under one parent
-    ∷ differs every_has_one (row 1 1 0 0 1 5 ++ row 1 2 1 1 2 1 ++ row 1 3 0 0 1 5) (Refused 12 2) true false
-    ∷ differs every_has_one (row 1 1 0 0 1 5 ++ row 1 2 1 1 2 1 ++ row 2 1 0 0 1 5) (Refused 12 2) true false
-    ∷ differs every_below_has_one (row 1 1 0 0 9 7 ++ row 1 2 1 1 1 5 ++ row 1 3 2 2 2 1 ++ row 1 4 1 1 1 5) (Refused 12 3) true false
+    ∷ differs every_has_one (row 1 1 0 0 1 5 ++ row 1 2 1 1 2 1 ++ row 1 3 0 0 1 5) (Refused Sibling 2) true false
+    ∷ differs every_has_one (row 1 1 0 0 1 5 ++ row 1 2 1 1 2 1 ++ row 2 1 0 0 1 5) (Refused Sibling 2) true false
+    ∷ differs every_below_has_one (row 1 1 0 0 9 7 ++ row 1 2 1 1 1 5 ++ row 1 3 2 2 2 1 ++ row 1 4 1 1 1 5) (Refused Sibling 3) true false
     ∷ []
 
 -- the claim

@@ -8,11 +8,21 @@ use Rattle.tables.specs.Words.{rows}
 use Rattle.tables.specs.Rules.{one, any_name, accepted_rule}
 use Rattle.tables.specs.Tables.{root, is_parent, accepted_table}
 use Rattle.tables.specs.declared.Row.{Row}
-use Rattle.tables.specs.declared.Answer.TheVariants.{Done}
+use Rattle.tables.specs.Answers.{Done}
 use Rattle.sets.specs.Sets.{rules_of, accepted_set}
 use Rattle.templates.specs.Templates.{fill_answer, written}
 use Rattle.folding.specs.Folding.{fold_answer, folded_table}
-use Rattle.logic.specs.Formulas.{Formula, negation, joined, quantified, compared, Connective, and, or, implies, Quantifier, every, some, Comparison, equal, less, at_most, Over, roots, under, Operand, variable, constant, formula, formulas_of}
+use Rattle.logic.specs.Formulas.{Formula, negation, joined, quantified, compared, formula, formulas_of}
+use Rattle.tables.specs.declared.Quantifier.{Quantifier}
+use Rattle.tables.specs.declared.Quantifier.TheVariants.{Every, Exists}
+use Rattle.tables.specs.declared.Connective.{Connective}
+use Rattle.tables.specs.declared.Connective.TheVariants.{And, Or, Implies}
+use Rattle.tables.specs.declared.Comparison.{Comparison}
+use Rattle.tables.specs.declared.Comparison.TheVariants.{Equal, Less, AtMost}
+use Rattle.tables.specs.declared.Over.{Over}
+use Rattle.tables.specs.declared.Over.TheVariants.{Roots, Under}
+use Rattle.tables.specs.declared.Operand.{Operand}
+use Rattle.tables.specs.declared.Operand.TheVariants.{Variable, Constant}
 use Rattle.logic.specs.Verdict.{verdict, verdict_answer, set_verdicts_answer, set_verdicts_out}
 use Rattle.logic.specs.Templates.{template_formula}
 use Rattle.logic.specs.Demand.{dump}
@@ -41,34 +51,34 @@ stand x path pair e y = cond (eqb y x) (record { path = path ++ pair ∷ []; val
 -- "a quantifier in CL always carries the path leading to a subtree (if any) that may refer to previously quantified variables":
 -- none over roots, else the path of the variable of the parent
 abbrev pub path_to : Over → Standings → Path
-path_to roots e = []
-path_to (under x) e = (e x).path
+path_to Roots e = []
+path_to (Under x) e = (e x).path
 
 abbrev pub term : Standings → Operand → ℕ
-term e (variable x) = (e x).value
-term e (constant k) = k
+term e (Variable x) = (e x).value
+term e (Constant k) = k
 
 abbrev pub connective : Connective → CL → CL → CL
-connective and = AND
-connective or = OR
-connective implies = IMPLIES
+connective And = AND
+connective Or = OR
+connective Implies = IMPLIES
 
 abbrev pub over_named : Quantifier → Path → ℕ → (ℕ → CL) → CL
-over_named every = EACH
-over_named some = SOME
+over_named Every = EACH
+over_named Exists = SOME
 
 abbrev pub over_any : Quantifier → Path → (Pair → CL) → CL
-over_any every = EACHPAIR
-over_any some = SOMEPAIR
+over_any Every = EACHPAIR
+over_any Exists = SOMEPAIR
 
 -- over any name where the name word says so, else Table 1's with that name; the body is given the pair
 abbrev pub quantifier : Quantifier → Path → ℕ → (Pair → CL) → CL
 quantifier q path p φ = cond (eqb p any_name) (over_any q path φ) (over_named q path p (λ k. φ (p is k)))
 
 abbrev pub comparison : Comparison → ℕ → ℕ → CL
-comparison equal = EQUAL
-comparison less = LESS
-comparison at_most = ATMOST
+comparison Equal = EQUAL
+comparison Less = LESS
+comparison AtMost = ATMOST
 
 -- d quantifiers stand around
 unfoldable pub stated : Formula → ℕ → Standings → CL

@@ -12,11 +12,15 @@ use std::{fs, str};
 // One byte more than the longest file, so that a longer one is seen.
 const FILE_ROOM: usize = 65537;
 
+// No text of the program is longer.
+const TEXT_ROOM: usize = 64;
+
 // Reads until the buffer is full, the input ends or a read fails: the number of bytes read.
 fn fill<F: Read>(file: &mut F, buffer: &mut [u8]) -> usize
     ensures { result ≤ length buffer.new }
 {
     let mut n = 0;
+    // Kept: (a) no heap: the library's read_to_end wants a Vec, and its read_exact doesn't tell how much a short file has.
     while n < buffer.len() {
         match file.read(&mut buffer[n..]) {
             Ok(0) | Err(_) => return n,
@@ -30,13 +34,13 @@ fn fill<F: Read>(file: &mut F, buffer: &mut [u8]) -> usize
 fn load<R: Files>(rt: &R, path: &[u8], buffer: &mut [u8]) -> usize
     ensures { result ≤ length buffer.new }
 {
-    match str::from_utf8(path) {
-        Ok(name) => match fs::open(rt, name) {
-            Ok(mut file) => fill(&mut file, buffer),
-            Err(_) => 0,
-        },
-        Err(_) => 0,
-    }
+    let Ok(name) = str::from_utf8(path) else {
+        return 0;
+    };
+    let Ok(mut file) = fs::open(rt, name) else {
+        return 0;
+    };
+    fill(&mut file, buffer)
 }
 
 // Prints the text for the two files: its number of bytes.
@@ -45,7 +49,7 @@ pub fn run<R: Files + Print>(rt: &R, rule: &[u8], pool: &[u8]) -> usize
 {
     let mut first = [0u8; FILE_ROOM];
     let mut second = [0u8; FILE_ROOM];
-    let mut text = [0u8; 64];
+    let mut text = [0u8; TEXT_ROOM];
     let m = load(rt, rule, &mut first);
     let n = load(rt, pool, &mut second);
     let k = checker::report(&first[..m], &second[..n], &mut text);

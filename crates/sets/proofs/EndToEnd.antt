@@ -40,7 +40,7 @@ module _ (rules counts : List ℕ) where
         ap (◌++◌ (rule_at rules counts i)) (laid_from k (suc i) (omega arith) ∙ ap (λ (j : ℕ). drop j rules) z ∙ sym (drop-drop n a rules))
         ∙ take-append-drop n (drop a rules)
 
-    laid_out : LaidOut rules counts
+    pub laid_out : LaidOut rules counts
     unfolding sum_below
     laid_out = record {
       end_to_end = laid_from (length counts) 0 (omega arith);

@@ -1,2 +1,4 @@
 pub mod Sets
 pub mod EndToEnd
+pub mod EachRule
+pub mod Checked

@@ -3,58 +3,51 @@ use Prim.Native.Nat.{ℕ, zero, suc, ◌+◌, ◌-◌, ◌*◌, ◌%◌, ◌≤�
 use native.Mathlib.Numerals.{add-one}
 use native.Mathlib.Omega.{arith}
 use mathlib.Core.Path.{◌≡◌, refl, sym, ap, ap₂, subst, ◌∙◌}
-use mathlib.Core.Bool.{Bool, true, false, ◌&&◌}
+use mathlib.Core.Bool.{Bool, true, ◌&&◌}
 use mathlib.Core.List.Memᴰ
 use mathlib.Core.List.{List, [], ◌∷◌}
 use lib.ListN.{length, take, drop, length-drop}
 use lib.Seq.{length-take-le}
 use lib.Dec.{eqb, leb}
 use borrow.Author.Tests.{eqb-true, eqb-false, leb-true}
+use Rattle.std.specs.Prelude.{Err}
 use Rattle.base.specs.Lists.{◌∈◌}
 use Rattle.base.specs.Search.{sum_below}
 use Rattle.base.proofs.Bools.{either, and_left, and_right}
 use Rattle.base.proofs.Sums.{sum_grows}
-use Rattle.tables.specs.Answers.{place, is_done, and_then, unless}
+use Rattle.tables.specs.Answers.{Answer, Done, Refused, place, is_done}
 use Rattle.tables.specs.Words.{whole, entry_words, entry_count}
 use Rattle.tables.specs.Rules.{to_constant, entry_fault, rule_length, rule_checks, check_entries, check_rule, accepted_rule}
-use Rattle.tables.specs.declared.Answer.{Answer}
-use Rattle.tables.specs.declared.Answer.TheVariants.{Done, Refused}
+use Rattle.tables.specs.declared.refusals.Fault.{Fault}
+use Rattle.tables.specs.declared.refusals.Fault.TheVariants.{RuleLength, Counts}
 use Rattle.tables.proofs.Answers.{first_at_fault, unless_ok, unless_next, unless_passed, and_then_first, and_then_next, and_then_passed}
 use Rattle.sets.specs.Sets.{set_limit, entries_of, entries_before, rule_at, rules_from, rules_of, counts_fit, shifted, rule_by_rule, check_set, accepted_set}
 
 -- ---- a rule's refusal
 -- its place is not past the rule
-refused_place : (r : List ℕ) {k p : ℕ} → check_rule r ≡ Refused k p → p ≤ entry_count r
+pub refused_place : (r : List ℕ) {k : Fault} {p : ℕ} → check_rule r ≡ Refused k p → p ≤ entry_count r
 unfolding check_entries
 refused_place r {k} {p} e = either (rule_length r)
     (λ q. let f = first_at_fault (entry_fault to_constant r) (entry_count r) k p rule_checks (rw q at e) in omega (arith, f.inside))
-    (λ q. let z : Refused 1 0 ≡ Refused k p = (rw q at e) in omega (arith, ap place z))
+    (λ q. let z : Refused RuleLength 0 ≡ Refused k p = (rw q at e) in omega (arith, ap place z))
 
 shifted_done : (before : ℕ) (a : Answer) → is_done (shifted before a) ≡ is_done a
 shifted_done before (Done n) = refl
-shifted_done before (Refused k p) = refl
+shifted_done before (Err r) = refl
 
 module _ (rules counts : List ℕ) where
   abbrev answer_at : ℕ → Answer
   answer_at i = shifted (entries_before counts i) (check_rule (rule_at rules counts i))
 
-  -- ---- 20, as the code tests it
+  -- ---- whether the counts fit
   abbrev number_ok : Bool
   number_ok = leb 1 (length counts) && leb (length counts) set_limit
 
   abbrev entries_ok : Bool
   entries_ok = whole entry_words rules && eqb (entries_before counts (length counts)) (entry_count rules)
 
-  pub number_fails : number_ok ≡ false → false ≡ counts_fit rules counts
-  number_fails e = sym (ap (λ (b : Bool). b && entries_ok) e)
-
   pub number_few : number_ok ≡ true → length counts ≤ set_limit
   number_few e = leb-true (length counts) set_limit (and_right (leb 1 (length counts)) _ e)
-
-  pub number_passes : number_ok ≡ true → {sum : ℕ} → sum ≡ entries_before counts (length counts)
-      → (whole entry_words rules && eqb sum (entry_count rules)) ≡ counts_fit rules counts
-  number_passes e sum_is_lem =
-      ap (λ (n : ℕ). whole entry_words rules && eqb n (entry_count rules)) sum_is_lem ∙ sym (ap (λ (b : Bool). b && entries_ok) e)
 
   -- ---- what an accepted set tells, and when a set is accepted
   rules_passed : (k i : ℕ) (next : Answer) → is_done (rule_by_rule rules counts i k next) ≡ true
@@ -77,16 +70,16 @@ module _ (rules counts : List ℕ) where
 
   pub counts_fit_lem : accepted_set rules counts ≡ true → counts_fit rules counts ≡ true
   unfolding check_set
-  counts_fit_lem e = unless_ok (counts_fit rules counts) 20 _ e
+  counts_fit_lem e = unless_ok (counts_fit rules counts) Counts _ e
 
   pub each_accepted : accepted_set rules counts ≡ true → (i : ℕ) → i < length counts → accepted_rule (rule_at rules counts i) ≡ true
   unfolding check_set
-  each_accepted e i h = rules_passed (length counts) 0 _ (unless_next (counts_fit rules counts) 20 _ e) i (omega arith) (omega arith)
+  each_accepted e i h = rules_passed (length counts) 0 _ (unless_next (counts_fit rules counts) Counts _ e) i (omega arith) (omega arith)
 
   pub set_done : counts_fit rules counts ≡ true → ((i : ℕ) → i < length counts → accepted_rule (rule_at rules counts i) ≡ true)
       → check_set rules counts ≡ Done (length counts)
   unfolding check_set
-  set_done f h = unless_passed (counts_fit rules counts) 20 _ f ∙ all_passed (length counts) 0 _ (λ j l g. h j (omega arith))
+  set_done f h = unless_passed (counts_fit rules counts) Counts _ f ∙ all_passed (length counts) 0 _ (λ j l g. h j (omega arith))
 
   -- ---- the list of its rules
   in_from : (k i : ℕ) {r : List ℕ} → r ∈ rules_from rules counts i k → (j : ℕ) × (i ≤ j) × (j < i + k) × (r ≡ rule_at rules counts j)
@@ -118,6 +111,13 @@ module _ (rules counts : List ℕ) where
         let sum = eqb-true (entries_before counts (length counts)) (entry_count rules) (and_right (whole entry_words rules) _ entries_fit) in
         let left = eqb-true (length rules % entry_words) 0 (and_left (whole entry_words rules) _ entries_fit) in
         omega (arith, sum, left)
+
+  -- ---- an accepted set
+  pub accepted_few : accepted_set rules counts ≡ true → length counts ≤ set_limit
+  accepted_few e = set_few (counts_fit_lem e)
+
+  pub accepted_there : accepted_set rules counts ≡ true → entry_words * entries_before counts (length counts) ≤ length rules
+  accepted_there e = omega (arith, words_are (counts_fit_lem e))
 
   -- ---- a walk over the rules: i are passed, and so many entries with them
   pub record Walked (i before : ℕ) : Type 0 where
@@ -171,57 +171,3 @@ module _ (rules counts : List ℕ) where
   pub none_left : (i : ℕ) → length counts ≤ i → rules_from rules counts i (length counts - i) ≡ []
   unfolding rules_from
   none_left i h = let z : length counts - i ≡ 0 = omega arith in ap (rules_from rules counts i) z
-
-  -- ---- the loop of the check: the answer is that of the rules left
-  abbrev answers_from : ℕ → Answer
-  answers_from i = rule_by_rule rules counts i (length counts - i) (Done (length counts))
-
-  pub record Checked (i before : ℕ) : Type 0 where
-    pub walked : Walked i before
-    pub left : check_set rules counts ≡ answers_from i
-
-  pub counts_fail : counts_fit rules counts ≡ false → Refused 20 0 ≡ check_set rules counts
-  unfolding check_set
-  counts_fail e = sym (ap (λ (b : Bool). unless b 20 (rule_by_rule rules counts 0 (length counts) (Done (length counts)))) e)
-
-  pub check_begin : counts_fit rules counts ≡ true → Checked 0 0
-  unfolding check_set
-  check_begin fit =
-      let z : length counts ≡ length counts - 0 = omega arith in
-      record {
-        walked = walk_begin fit;
-        left = unless_passed (counts_fit rules counts) 20 _ fit ∙ ap (λ (k : ℕ). rule_by_rule rules counts 0 k (Done (length counts))) z;
-      }
-
-  module _ {i before : ℕ} (c : Checked i before) (h : i < length counts) {end : ℕ} (end_is : end ≡ before + entries_of counts i) {a : Answer}
-      (a_is : a ≡ check_rule (take (entry_words * end - entry_words * before) (drop (entry_words * before) rules))) where
-    here : a ≡ check_rule (rule_at rules counts i)
-    here = a_is ∙ ap check_rule (rule_is c.walked h end_is)
-
-    next_is : check_set rules counts ≡ and_then (shifted before a) (answers_from (i + 1))
-    unfolding rule_by_rule
-    next_is =
-        c.left ∙ ap (λ (k : ℕ). rule_by_rule rules counts i k (Done (length counts))) (one_less c.walked h)
-        ∙ ap (λ (j : ℕ). and_then (answer_at i) (rule_by_rule rules counts j (length counts - (i + 1)) (Done (length counts)))) (sym (add-one i))
-        ∙ ap₂ (λ (b : ℕ) (x : Answer). and_then (shifted b x) (answers_from (i + 1))) (sym c.walked.before_is) (sym here)
-
-    module _ {k p : ℕ} (refused : a ≡ Refused k p) where
-      pub rule_refused : Refused k (before + p) ≡ check_set rules counts
-      rule_refused = sym (next_is ∙ ap (λ (x : Answer). and_then (shifted before x) (answers_from (i + 1))) refused)
-
-      pub place_inside : entry_words * (before + p) ≤ length rules
-      place_inside =
-          let inside = refused_place (rule_at rules counts i) (sym here ∙ refused) in
-          omega (arith, inside, rule_words c.walked h, rule_inside c.walked h)
-
-    pub check_more : {n : ℕ} → a ≡ Done n → Checked (i + 1) end
-    check_more done = record {
-      walked = walk_more c.walked h end_is;
-      left = next_is ∙ ap (λ (x : Answer). and_then (shifted before x) (answers_from (i + 1))) done;
-    }
-
-  pub check_end : {i before : ℕ} → Checked i before → length counts ≤ i → Done (length counts) ≡ check_set rules counts
-  unfolding rule_by_rule
-  check_end {i} c h =
-      let z : length counts - i ≡ 0 = omega arith in
-      sym (c.left ∙ ap (λ (k : ℕ). rule_by_rule rules counts i k (Done (length counts))) z)

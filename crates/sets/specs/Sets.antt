@@ -1,12 +1,11 @@
 -- 02, wish 1: a set is up to 32 rules laid end to end, with a list of their entry counts. Assumes nothing.
-use Rattle.std.specs.Prelude.{ℕ, zero, suc, ◌+◌, ◌*◌, ◌<◌, ◌≡◌, Bool, true, ◌&&◌, List, [], ◌∷◌, length, get_or, take, drop, eqb, leb}
+use Rattle.std.specs.Prelude.{ℕ, zero, suc, ◌+◌, ◌*◌, ◌<◌, ◌≡◌, Bool, true, ◌&&◌, List, [], ◌∷◌, length, get_or, take, drop, eqb, leb, Err}
 use Rattle.base.specs.Lists.{◌∈◌, concat_map}
 use Rattle.base.specs.Search.{sum_below}
-use Rattle.tables.specs.Answers.{is_done, and_then, unless}
+use Rattle.tables.specs.Answers.{Answer, Done, Refused, is_done, and_then, unless}
 use Rattle.tables.specs.Words.{whole, entry_words, entry_count}
 use Rattle.tables.specs.Rules.{check_rule, accepted_rule}
-use Rattle.tables.specs.declared.Answer.{Answer}
-use Rattle.tables.specs.declared.Answer.TheVariants.{Done, Refused}
+use Rattle.tables.specs.declared.refusals.Fault.TheVariants.{Counts}
 
 -- a set is up to 32 rules
 abbrev pub set_limit : ℕ
@@ -35,7 +34,7 @@ abbrev pub rules_of : List ℕ → List ℕ → List (List ℕ)
 rules_of rules counts = rules_from rules counts 0 (length counts)
 
 -- ---- the refusals
--- 20: no counts, more than 32, or counts that don't add up to the entries (a leftover word is such a case)
+-- no counts, more than 32, or counts that don't add up to the entries (a leftover word is such a case)
 abbrev pub counts_fit : List ℕ → List ℕ → Bool
 counts_fit rules counts =
     (leb 1 (length counts) && leb (length counts) set_limit)
@@ -44,9 +43,9 @@ counts_fit rules counts =
 -- a rule's answer, with a refusal's place counted from the first entry of the set, of which so many stand before the rule
 abbrev pub shifted : ℕ → Answer → Answer
 shifted before (Done n) = Done n
-shifted before (Refused k p) = Refused k (before + p)
+shifted before (Err r) = Refused r.fault (before + r.place)
 
--- 1 to 7 of k rules from rule i on, rule by rule, before the next answer
+-- the checks of k rules from rule i on, rule by rule, before the next answer
 unfoldable pub rule_by_rule : List ℕ → List ℕ → ℕ → ℕ → Answer → Answer
 rule_by_rule rules counts i zero next = next
 rule_by_rule rules counts i (suc k) next =
@@ -54,7 +53,7 @@ rule_by_rule rules counts i (suc k) next =
 
 -- the answer of the set's checks: the number of rules, or the first refusal
 unfoldable pub check_set : List ℕ → List ℕ → Answer
-check_set rules counts = unless (counts_fit rules counts) 20 (rule_by_rule rules counts 0 (length counts) (Done (length counts)))
+check_set rules counts = unless (counts_fit rules counts) Counts (rule_by_rule rules counts 0 (length counts) (Done (length counts)))
 
 -- a set is accepted if its checks find no fault
 abbrev pub accepted_set : List ℕ → List ℕ → Bool

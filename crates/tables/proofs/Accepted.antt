@@ -5,33 +5,34 @@ use mathlib.Core.Bool.{true, false}
 use mathlib.Core.List.{List}
 use lib.ListN.{length}
 use Rattle.base.specs.Lists.{◌∈◌}
-use Rattle.base.proofs.Lists.{select_out}
 use Rattle.base.proofs.Search.{none_at}
 use Rattle.tables.specs.Answers.{in_order}
 use Rattle.tables.specs.Words.{row_words, row_at, row_count}
-use Rattle.tables.specs.Tables.{root, is_parent, is_twin, has_twin, row_fault, row_limit, table_length, table_checks, check_table, accepted_table, but12, ordered_table}
+use Rattle.tables.specs.Tables.{root, is_parent, is_twin, has_twin, row_fault, row_limit, table_length, table_checks, order_checks, check_table, accepted_table, ordered_table}
+use Rattle.tables.specs.declared.refusals.Fault.{Fault}
 use Rattle.tables.specs.Devices.{from_device}
-use Rattle.tables.specs.declared.Answer.TheVariants.{Done}
-use Rattle.tables.proofs.Answers.{unless_ok, unless_next, unless_passed, listed, no_fault, in_order_passed}
+use Rattle.tables.specs.Answers.{Done}
+use Rattle.tables.proofs.Answers.{unless_ok, unless_next, unless_passed, listed, no_fault, in_order_passed, in_first}
 use Rattle.tables.proofs.Ordered as laws
 use Rattle.tables.proofs.Ordered.{order, Placed}
 pub use Rattle.tables.proofs.Ordered.{parent_device, parent_at}
+use Rattle.tables.specs.declared.refusals.Fault.TheVariants.{TableLength, Sibling}
 
 module _ (t : List ℕ) where
   -- a table without faults is accepted
-  pub accept : table_length t ≡ true → ((k : ℕ) → k ∈ table_checks → (i : ℕ) → i < row_count t → row_fault t k i ≡ false) → check_table t ≡ Done (row_count t)
+  pub accept : table_length t ≡ true → ((k : Fault) → k ∈ table_checks → (i : ℕ) → i < row_count t → row_fault t k i ≡ false) → check_table t ≡ Done (row_count t)
   unfolding check_table
-  accept l h = unless_passed (table_length t) 8 (in_order (row_fault t) (row_count t) table_checks) l ∙ in_order_passed (row_fault t) (row_count t) table_checks h
+  accept l h = unless_passed (table_length t) TableLength (in_order (row_fault t) (row_count t) table_checks) l ∙ in_order_passed (row_fault t) (row_count t) table_checks h
 
   module _ (ok : accepted_table t ≡ true) where
     pub length_ok : table_length t ≡ true
     unfolding check_table
-    length_ok = unless_ok (table_length t) 8 (in_order (row_fault t) (row_count t) table_checks) ok
+    length_ok = unless_ok (table_length t) TableLength (in_order (row_fault t) (row_count t) table_checks) ok
 
     -- no row has a fault of any number
-    pub faultless : (k : ℕ) → k ∈ table_checks → (i : ℕ) → i < row_count t → row_fault t k i ≡ false
+    pub faultless : (k : Fault) → k ∈ table_checks → (i : ℕ) → i < row_count t → row_fault t k i ≡ false
     unfolding check_table
-    faultless = no_fault (row_fault t) (row_count t) table_checks (unless_next (table_length t) 8 (in_order (row_fault t) (row_count t) table_checks) ok)
+    faultless = no_fault (row_fault t) (row_count t) table_checks (unless_next (table_length t) TableLength (in_order (row_fault t) (row_count t) table_checks) ok)
 
     pub answered : check_table t ≡ Done (row_count t)
     answered = accept length_ok faultless
@@ -39,14 +40,14 @@ module _ (t : List ℕ) where
     -- ---- siblings differ
     pub no_12 : (i : ℕ) → i < row_count t → has_twin t i ≡ false
     unfolding row_fault
-    no_12 = faultless 12 (listed table_checks 12 refl)
+    no_12 = faultless Sibling (listed table_checks Sibling refl)
 
     pub no_twin : (j i : ℕ) → j < i → i < row_count t → is_twin (row_at t i) (row_at t j) ≡ false
     no_twin j i l h = none_at (λ k. is_twin (row_at t i) (row_at t k)) i j (no_12 i h) l
 
     -- ---- what any ordered table tells
     pub ordered : ordered_table t ≡ true
-    ordered = order t length_ok (λ k m. faultless k (select_out but12 table_checks m).0)
+    ordered = order t length_ok (λ k m. faultless k (in_first Sibling order_checks m))
 
     placed : Placed t
     placed = laws.placed t ordered

@@ -19,11 +19,13 @@ use Rattle.tables.specs.Rules.{nesting_limit, is_quantifier, is_connective, is_c
 use Rattle.tables.specs.Rules.{around_from, around, unknown_kind, bad_word, bad_place, bad_child, bad_naming, too_deep, unbound, entry_fault}
 use Rattle.tables.specs.Rules.{entry_limit, rule_length, rule_checks, check_entries}
 use Rattle.tables.specs.declared.Entry.{Entry}
-use Rattle.tables.specs.declared.Answer.TheVariants.{Done, Refused}
+use Rattle.tables.specs.Answers.{Done, Refused}
 use Rattle.tables.proofs.Answers.{unless_past, unless_ok, unless_next, unless_passed, listed, no_fault, in_order_passed}
 use Rattle.tables.proofs.Answers.{FirstAtFault, first_at_fault, before, passed_earlier}
 use Rattle.tables.proofs.Faults.{not_too_high}
 use Rattle.tables.proofs.Whole.{whole_lines, rule_whole, rule_some, rule_few}
+use Rattle.tables.specs.declared.refusals.Fault.TheVariants.{RuleLength, Kind, Word, Child, Naming, Nesting, Unbound}
+use Rattle.tables.specs.declared.refusals.Fault.{Fault}
 
 -- ---- a sum holds each of its terms
 term_le : (f : ℕ → ℕ) (n i : ℕ) → i < n → f i ≤ sum_below f n
@@ -61,7 +63,7 @@ module _ (e : Entry) where
 module _ (most : ℕ) (r : List ℕ) (ok : is_done (check_entries most r) ≡ true) where
   length_ok : rule_length r ≡ true
   unfolding check_entries
-  length_ok = unless_ok (rule_length r) 1 (in_order (entry_fault most r) (entry_count r) rule_checks) ok
+  length_ok = unless_ok (rule_length r) RuleLength (in_order (entry_fault most r) (entry_count r) rule_checks) ok
 
   -- the words are those of whole entries, of which there is one
   pub whole_entries : length r ≡ entry_words * entry_count r
@@ -73,22 +75,22 @@ module _ (most : ℕ) (r : List ℕ) (ok : is_done (check_entries most r) ≡ tr
   pub few_entries : entry_count r ≤ entry_limit
   few_entries = rule_few r length_ok
 
-  faultless : (k : ℕ) → k ∈ rule_checks → (i : ℕ) → i < entry_count r → entry_fault most r k i ≡ false
+  faultless : (k : Fault) → k ∈ rule_checks → (i : ℕ) → i < entry_count r → entry_fault most r k i ≡ false
   unfolding check_entries
-  faultless = no_fault (entry_fault most r) (entry_count r) rule_checks (unless_next (rule_length r) 1 (in_order (entry_fault most r) (entry_count r) rule_checks) ok)
+  faultless = no_fault (entry_fault most r) (entry_count r) rule_checks (unless_next (rule_length r) RuleLength (in_order (entry_fault most r) (entry_count r) rule_checks) ok)
 
   -- the checks answer the number of entries
   pub checked_count : check_entries most r ≡ Done (entry_count r)
   unfolding check_entries
   checked_count =
-      unless_passed (rule_length r) 1 (in_order (entry_fault most r) (entry_count r) rule_checks) length_ok
+      unless_passed (rule_length r) RuleLength (in_order (entry_fault most r) (entry_count r) rule_checks) length_ok
       ∙ in_order_passed (entry_fault most r) (entry_count r) rule_checks faultless
 
   -- each entry but 0 is named once
   pub named_once : (j : ℕ) → 0 < j → j < entry_count r → times_named r j ≡ 1
   unfolding entry_fault
   named_once j p h =
-      let e : bad_naming r j ≡ false = faultless 5 (listed rule_checks 5 refl) j h in
+      let e : bad_naming r j ≡ false = faultless Naming (listed rule_checks Naming refl) j h in
       eqb-true (times_named r j) 1 (not-false _ (rw (lt-ltb 0 j p) at e))
 
   pub one_parent : (i k j : ℕ) → i < k → k < entry_count r → 0 < j → j < entry_count r → is_child (entry_at r i) j ≡ true → is_child (entry_at r k) j ≡ true → ⊥
@@ -119,12 +121,12 @@ module _ (most : ℕ) (r : List ℕ) (ok : is_done (check_entries most r) ≡ tr
     pub kind_range : (1 ≤ (entry_at r i).kind) × ((entry_at r i).kind ≤ 9)
     unfolding entry_fault
     kind_range =
-        let e : unknown_kind (entry_at r i) ≡ false = faultless 2 (listed rule_checks 2 refl) i h in
+        let e : unknown_kind (entry_at r i) ≡ false = faultless Kind (listed rule_checks Kind refl) i h in
         (ltb-false (entry_at r i).kind 1 (or_left (ltb (entry_at r i).kind 1) (ltb 9 (entry_at r i).kind) e), ltb-false 9 (entry_at r i).kind (or_right (ltb (entry_at r i).kind 1) (ltb 9 (entry_at r i).kind) e))
 
     children_ok : bad_child (entry_count r) i (entry_at r i) ≡ false
     unfolding entry_fault
-    children_ok = faultless 4 (listed rule_checks 4 refl) i h
+    children_ok = faultless Child (listed rule_checks Child refl) i h
 
     later : (j : ℕ) → bad_place (entry_count r) i j ≡ false → (i < j) × (j < entry_count r)
     later j e = (leb-false j i (or_left (leb j i) (leb (entry_count r) j) e), leb-false (entry_count r) j (or_right (leb j i) (leb (entry_count r) j) e))
@@ -166,12 +168,12 @@ module _ (most : ℕ) (r : List ℕ) (ok : is_done (check_entries most r) ≡ tr
     unfolding entry_fault
     b_limited high =
         let e = entry_at r i in
-        let words : bad_word most e ≡ false = faultless 3 (listed rule_checks 3 refl) i h in
+        let words : bad_word most e ≡ false = faultless Word (listed rule_checks Word refl) i h in
         ltb-false most e.b (and_rest (is_comparison e) (ltb most e.b) (not_too_high e most words) (between e 7 9 high kind_range.1))
 
     unbound_ok : unbound (around r i) (entry_at r i) ≡ false
     unfolding entry_fault
-    unbound_ok = faultless 7 (listed rule_checks 7 refl) i h
+    unbound_ok = faultless Unbound (listed rule_checks Unbound refl) i h
 
     -- a quantifier binds one of the variables in its body, and its parent's variable is bound
     module _ (high : 5 ≤ (entry_at r i).kind) (low : (entry_at r i).kind ≤ 6) where
@@ -181,7 +183,7 @@ module _ (most : ℕ) (r : List ℕ) (ok : is_done (check_entries most r) ≡ tr
       pub nesting : around r i < nesting_limit
       unfolding entry_fault
       nesting =
-          let e : too_deep r i ≡ false = faultless 6 (listed rule_checks 6 refl) i h in
+          let e : too_deep r i ≡ false = faultless Nesting (listed rule_checks Nesting refl) i h in
           leb-false nesting_limit (around r i) (and_rest (is_quantifier (entry_at r i)) _ e (is_quantifier_lem (entry_at r i) high low))
 
       pub over_bound_lem : (entry_at r i).b ≤ around r i
@@ -205,13 +207,13 @@ module _ (most : ℕ) (r : List ℕ) (ok : is_done (check_entries most r) ≡ tr
           (and_rest (eqb (entry_at r i).b 0) _ (or_right (leb (around r i) (entry_at r i).a) _ compared_ok) (eq-eqb (entry_at r i).b 0 e))
 
 -- ---- a refused rule or template: but for 1, the place is the first entry with the fault of that number, and no entry has an earlier one
-module _ (most : ℕ) (r : List ℕ) (k p : ℕ) (h : 1 < k) (refused : check_entries most r ≡ Refused k p) where
+module _ (most : ℕ) (r : List ℕ) (k : Fault) (p : ℕ) (h : RuleLength ≡ k → ⊥) (refused : check_entries most r ≡ Refused k p) where
   in_entries : in_order (entry_fault most r) (entry_count r) rule_checks ≡ Refused k p
   unfolding check_entries
-  in_entries = unless_past (rule_length r) 1 _ (λ e. omega arith) refused
+  in_entries = unless_past (rule_length r) RuleLength _ k p h refused
 
   pub refused_entry : FirstAtFault (entry_fault most r) (entry_count r) k p
   refused_entry = first_at_fault (entry_fault most r) (entry_count r) k p rule_checks in_entries
 
-  pub passed_entries : (x : ℕ) → before x k rule_checks ≡ true → (i : ℕ) → i < entry_count r → entry_fault most r x i ≡ false
+  pub passed_entries : (x : Fault) → before x k rule_checks ≡ true → (i : ℕ) → i < entry_count r → entry_fault most r x i ≡ false
   passed_entries = passed_earlier (entry_fault most r) (entry_count r) k p rule_checks in_entries

@@ -9,16 +9,21 @@ use lib.Seq.{take_at}
 use lib.Dec.{leb}
 use borrow.Author.Tests.{le-leb, leb-true, leb-false}
 use Rattle.base.proofs.Bools.{either}
-use Rattle.tables.specs.declared.Answer.{Answer}
-use Rattle.tables.specs.declared.Answer.TheVariants.{Done, Refused}
+use Rattle.tables.specs.Answers.{Answer}
+use Rattle.tables.specs.Answers.{Done, Refused}
 use Rattle.tables.specs.Answers.{number, is_done, and_then, fitting, output}
 use Rattle.tables.specs.Files.{Format, starts_with, at_line, at_end, check_file, read_words, read_answer, read_out, write_text, write_answer, write_out}
 use Rattle.tables.specs.Trips.{up_to, file_in, table_in}
 use Rattle.tables.proofs.Answers.{unless_passed, and_then_passed}
+use Rattle.tables.specs.declared.refusals.Fault.TheVariants.{ShortOutput}
+use Rattle.tables.specs.declared.refusals.Fault.{Fault}
+use Rattle.tables.proofs.FaultNumbers.{same_number}
+use mathlib.Core.Path.{ap}
+use Rattle.std.specs.Prelude.{Err}
 
 -- ---- an accepted check, and room: the call is accepted
 fitted : (checked : Answer) (result : List ℕ) (room : ℕ) → is_done checked ≡ true → length result ≤ room → and_then checked (fitting result room) ≡ Done (length result)
-fitted checked result room ok h = and_then_passed checked (fitting result room) ok ∙ unless_passed (leb (length result) room) 17 (Done (length result)) (le-leb _ _ h)
+fitted checked result room ok h = and_then_passed checked (fitting result room) ok ∙ unless_passed (leb (length result) room) ShortOutput (Done (length result)) (le-leb _ _ h)
 
 -- what it leaves in the output, up to the answer
 pub left : (answer : Answer) (result out : List ℕ) → answer ≡ Done (length result) → up_to answer (output answer result out) ≡ result
@@ -50,7 +55,7 @@ pub record Fits (checked : Answer) (result : List ℕ) (room n : ℕ) : Type 0 w
   pub within : n ≤ room
 
 fits : (checked : Answer) (result : List ℕ) (room n : ℕ) → and_then checked (fitting result room) ≡ Done n → Fits checked result room n
-fits (Refused m p) result room n e = let z : ◌≡◌ {A = ℕ} 0 1 = cc in absurd (omega arith)
+fits (Err r) result room n e = let z : ◌≡◌ {A = ℕ} 0 1 = cc in absurd (omega arith)
 fits (Done m) result room n e = either (leb (length result) room)
     (λ q. let c : length result ≡ n = same (rw q at e) in record { passed = refl; count = sym c; within = omega (arith, leb-true (length result) room q) })
     (λ q. absurd (other (rw q at e)))
@@ -58,12 +63,12 @@ fits (Done m) result room n e = either (leb (length result) room)
     same : ◌≡◌ {A = Answer} (Done (length result)) (Done n) → length result ≡ n
     same w = cc
 
-    other : ◌≡◌ {A = Answer} (Refused 17 0) (Done n) → ⊥
+    other : ◌≡◌ {A = Answer} (Refused ShortOutput 0) (Done n) → ⊥
     other w = let z : ◌≡◌ {A = ℕ} 0 1 = cc in omega arith
 
--- refused with another number than 17: so is the check
-refused : (checked : Answer) (result : List ℕ) (room m p : ℕ) → and_then checked (fitting result room) ≡ Refused m p → (m ≡ 17 → ⊥) → checked ≡ Refused m p
-refused (Refused n q) result room m p e h = e
+-- refused, but not for a short output: so is the check
+refused : (checked : Answer) (result : List ℕ) (room : ℕ) (m : Fault) (p : ℕ) → and_then checked (fitting result room) ≡ Refused m p → (m ≡ ShortOutput → ⊥) → checked ≡ Refused m p
+refused (Err r) result room m p e h = e
 refused (Done n) result room m p e h = either (leb (length result) room)
     (λ q. absurd (done (rw q at e)))
     (λ q. absurd (h (short (rw q at e))))
@@ -71,28 +76,28 @@ refused (Done n) result room m p e h = either (leb (length result) room)
     done : ◌≡◌ {A = Answer} (Done (length result)) (Refused m p) → ⊥
     done w = let z : ◌≡◌ {A = ℕ} 0 1 = cc in omega arith
 
-    short : ◌≡◌ {A = Answer} (Refused 17 0) (Refused m p) → m ≡ 17
-    short w = cc
+    short : ◌≡◌ {A = Answer} (Refused ShortOutput 0) (Refused m p) → m ≡ ShortOutput
+    short w = sym (same_number _ _ (ap number w))
 
--- refused with 17, which the check never gives: it passed, and there is no room
+-- refused for a short output, which the check never gives: it passed, and there is no room
 pub record Short (checked : Answer) (result : List ℕ) (room : ℕ) : Type 0 where
   pub passed : is_done checked ≡ true
   pub over : room < length result
 
-short : (checked : Answer) (result : List ℕ) (room p : ℕ) → (number checked ≡ 17 → ⊥) → and_then checked (fitting result room) ≡ Refused 17 p → Short checked result room
-short (Refused n q) result room p h e = let z : n ≡ 17 = cc in absurd (h z)
+short : (checked : Answer) (result : List ℕ) (room p : ℕ) → (number checked ≡ 17 → ⊥) → and_then checked (fitting result room) ≡ Refused ShortOutput p → Short checked result room
+short (Err r) result room p h e = absurd (h (ap number e))
 short (Done n) result room p h e = either (leb (length result) room)
     (λ q. absurd (done (rw q at e)))
     (λ q. record { passed = refl; over = leb-false (length result) room q })
   where
-    done : ◌≡◌ {A = Answer} (Done (length result)) (Refused 17 p) → ⊥
+    done : ◌≡◌ {A = Answer} (Done (length result)) (Refused ShortOutput p) → ⊥
     done w = let z : ◌≡◌ {A = ℕ} 0 1 = cc in omega arith
 
 module _ (names : List ℕ) (f : Format) (file : List ℕ) where
-  -- 18 and 19 are the only refusals of a file
-  never_17 : number (check_file names f file) ≡ 17 → ⊥
+  -- a file is refused for its first line or another line alone
+  never_short : number (check_file names f file) ≡ 17 → ⊥
   unfolding check_file
-  never_17 e = either (starts_with names file)
+  never_short e = either (starts_with names file)
       (λ p. either (at_line (at_end names f file))
       (λ q. let z : ◌≡◌ {A = ℕ} 0 17 = (rw (p, q) at e) in omega arith)
       (λ q. let z : ◌≡◌ {A = ℕ} 19 17 = (rw (p, q) at e) in omega arith))
@@ -102,10 +107,10 @@ module _ (names : List ℕ) (f : Format) (file : List ℕ) where
   unfolding read_answer
   read_done room n e = fits (check_file names f file) (read_words names f file) room n e
 
-  pub read_refused : (room m p : ℕ) → read_answer names f file room ≡ Refused m p → (m ≡ 17 → ⊥) → check_file names f file ≡ Refused m p
+  pub read_refused : (room : ℕ) (m : Fault) (p : ℕ) → read_answer names f file room ≡ Refused m p → (m ≡ ShortOutput → ⊥) → check_file names f file ≡ Refused m p
   unfolding read_answer
   read_refused room m p e h = refused (check_file names f file) (read_words names f file) room m p e h
 
-  pub read_short : (room p : ℕ) → read_answer names f file room ≡ Refused 17 p → Short (check_file names f file) (read_words names f file) room
+  pub read_short : (room p : ℕ) → read_answer names f file room ≡ Refused ShortOutput p → Short (check_file names f file) (read_words names f file) room
   unfolding read_answer
-  read_short room p e = short (check_file names f file) (read_words names f file) room p never_17 e
+  read_short room p e = short (check_file names f file) (read_words names f file) room p never_short e

@@ -11,15 +11,15 @@ use lib.Dec.{ltb}
 use borrow.Author.Tests.{ltb-true, ltb-false, lt-ltb, le-ltb}
 use Rattle.base.proofs.Bools.{either}
 use Rattle.tables.specs.declared.reading.Scan.{Scan}
-use Rattle.tables.specs.declared.reading.Number.{Number}
+use Rattle.tables.specs.declared.reading.Pending.{Pending}
 use Rattle.tables.specs.Files.{Format, word_read, step_of, words_from, at_start}
 use Rattle.tables.specs.Scans.{put_of}
 use Rattle.tables.proofs.Steps.{Counted, step_counted}
 use Rattle.tables.proofs.Scans.{Scanning, scan_begin, scan_more}
 
 -- the number of a state
-abbrev pub number_at : Scan → Number
-number_at s = record { minus = s.minus; value = s.value; place = s.count }
+abbrev pub number_at : Scan → Pending
+number_at s = record { number = s.number; place = s.count }
 
 pub record Filling (f : Format) (bs out₀ : List ℕ) (s : Scan) (out : List ℕ) (i : ℕ) : Type 0 where
   pub scan : Scanning f bs s i

@@ -10,14 +10,15 @@ use lib.Dec.{leb}
 use borrow.Author.Tests.{le-leb}
 use Rattle.tables.specs.Answers.{is_done}
 use Rattle.tables.specs.Joining.{join_tables, join_answer, join_pool}
-use Rattle.tables.specs.declared.Answer.{Answer}
+use Rattle.tables.specs.Answers.{Answer}
 use Rattle.tables.proofs.Answers.{unless_passed}
+use Rattle.tables.specs.declared.refusals.Fault.TheVariants.{TableLength}
 
 module _ (t rest u : List ℕ) where
   pub in_place_answer : join_answer (t ++ rest) (length t) u ≡ join_tables t u (length (t ++ rest))
   unfolding join_answer
   in_place_answer =
-      unless_passed (leb (length t) (length (t ++ rest))) 8 _ (le-leb (length t) (length (t ++ rest)) (omega (arith, length-append t rest)))
+      unless_passed (leb (length t) (length (t ++ rest))) TableLength _ (le-leb (length t) (length (t ++ rest)) (omega (arith, length-append t rest)))
       ∙ ap (λ (s : List ℕ). join_tables s u (length (t ++ rest))) (take-append_seam t rest)
 
   -- the buffer then begins with the table that the joining leaves

@@ -2,18 +2,16 @@
 use Prim.Native.Nat.{ℕ, ◌+◌, ◌-◌, ◌≤◌, ◌<◌}
 use mathlib.Core.Path.{◌≡◌, refl, sym, ap, subst}
 use mathlib.Core.Logic.{◌⊎◌, inl, inr}
-use mathlib.Core.Bool.{true, false, not}
+use mathlib.Core.Bool.{true, false}
 use mathlib.Core.List.Memᴰ
 use mathlib.Core.List.{List, [], ◌∷◌, ◌++◌}
 use native.Mathlib.Omega.{arith}
 use lib.Dec.{eqb}
-use borrow.Author.Tests.{eqb-true, ne_eqb, ltb-true}
+use borrow.Author.Tests.{ne_eqb, ltb-true}
 use Rattle.base.specs.Lists.{◌∈◌}
-use Rattle.base.proofs.Bools.{either}
-use Rattle.base.proofs.Lists.{select_in}
 use Rattle.tables.specs.Answers.{is_done}
 use Rattle.tables.specs.Words.{row_at, row_count, rows}
-use Rattle.tables.specs.Tables.{is_parent, row_fault, table_length, check_table, accepted_table, but12}
+use Rattle.tables.specs.Tables.{is_parent, row_fault, table_length, check_table, accepted_table}
 use Rattle.tables.specs.Joining.{follows, join_tables, JoinedAccepted}
 use Rattle.tables.specs.declared.Row.{Row}
 use Rattle.tables.proofs.Answers.{and_then_first, and_then_next, unless_ok, unless_next, none_of}
@@ -21,6 +19,11 @@ use Rattle.tables.proofs.Ordered.{parent_device}
 use Rattle.tables.proofs.OrderedRows.{Above, Rising, more_rise, Ordered, rows_ordered, rows_faultless}
 use Rattle.tables.proofs.Accepted.{accept, ordered, rises, whole_rows}
 use Rattle.tables.proofs.RowLists.{rows_append, row_out}
+use Rattle.tables.specs.declared.refusals.Fault.TheVariants.{TableLength, Sibling, Join}
+use Rattle.tables.specs.declared.refusals.Fault.{Fault}
+use Rattle.tables.proofs.Answers.{first_or_last}
+use mathlib.Core.Logic.{⊎_elim}
+use Rattle.tables.specs.Tables.{order_checks}
 
 -- ---- rows of two lists, of which the second has larger devices
 abbrev Below : List Row → List Row → Type 0
@@ -80,18 +83,19 @@ module _ (s t : List ℕ) (ok_s : accepted_table s ≡ true) (ok_t : accepted_ta
       subst Ordered (sym (rows_append s t (whole_rows s ok_s)))
       (ordered_append (rows s) (rows t) below (rows_ordered s (ordered s ok_s)) (rows_ordered t (ordered t ok_t)))
 
-  joined : table_length (s ++ t) ≡ true → ((i : ℕ) → i < row_count (s ++ t) → row_fault (s ++ t) 12 i ≡ false)
+  joined : table_length (s ++ t) ≡ true → ((i : ℕ) → i < row_count (s ++ t) → row_fault (s ++ t) Sibling i ≡ false)
       → accepted_table (s ++ t) ≡ true
-  joined short apart = ap is_done (accept (s ++ t) short (λ k m i h. either (eqb k 12)
-      (λ e. subst (λ (x : ℕ). row_fault (s ++ t) x i ≡ false) (sym (eqb-true k 12 e)) (apart i h))
-      (λ e. rows_faultless (s ++ t) short joined_ordered k (select_in but12 m (ap not e)) i h)))
+  joined short apart = ap is_done (accept (s ++ t) short (λ k m i h. ⊎_elim
+      (λ f. rows_faultless (s ++ t) short joined_ordered k f i h)
+      (λ e. subst (λ (x : Fault). row_fault (s ++ t) x i ≡ false) (sym e) (apart i h))
+      (first_or_last order_checks m)))
 
 pub joined_accepted : JoinedAccepted
 unfolding join_tables
 joined_accepted s t room e =
     let c₀ = and_then_next (check_table s) _ e in
     let c₁ = and_then_next (check_table t) _ c₀ in
-    let c₂ = unless_next (follows s t) 16 _ c₁ in
-    let c₃ = unless_next (table_length (s ++ t)) 8 _ c₂ in
-    joined s t (and_then_first (check_table s) _ e) (and_then_first (check_table t) _ c₀) (unless_ok (follows s t) 16 _ c₁)
-    (unless_ok (table_length (s ++ t)) 8 _ c₂) (none_of (row_fault (s ++ t) 12) 12 (row_count (s ++ t)) _ c₃)
+    let c₂ = unless_next (follows s t) Join _ c₁ in
+    let c₃ = unless_next (table_length (s ++ t)) TableLength _ c₂ in
+    joined s t (and_then_first (check_table s) _ e) (and_then_first (check_table t) _ c₀) (unless_ok (follows s t) Join _ c₁)
+    (unless_ok (table_length (s ++ t)) TableLength _ c₂) (none_of (row_fault (s ++ t) Sibling) Sibling (row_count (s ++ t)) _ c₃)

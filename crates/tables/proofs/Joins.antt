@@ -14,10 +14,13 @@ use Rattle.tables.specs.Words.{row_words, row_at, row_count}
 use Rattle.tables.specs.Tables.{row_limit, has_twin, row_fault, table_length, check_table, accepted_table}
 use Rattle.tables.specs.Joining.{follows, join_tables, join_answer, join_pool}
 use Rattle.tables.specs.declared.Row.{Row}
-use Rattle.tables.specs.declared.Answer.{Answer}
-use Rattle.tables.specs.declared.Answer.TheVariants.{Done, Refused}
+use Rattle.tables.specs.Answers.{Answer}
+use Rattle.tables.specs.Answers.{Done, Refused}
 use Rattle.tables.proofs.Answers.{and_then_next, unless_ok, unless_next, unless_any_next}
 use Rattle.tables.proofs.Accepted.{few_rows, whole_rows}
+use Rattle.tables.specs.declared.refusals.Fault.TheVariants.{TableLength, Sibling, Join, ShortOutput}
+use Rattle.std.specs.Prelude.{Err}
+use Rattle.tables.specs.declared.refusals.Refusal.{Refusal}
 
 module _ (s t : List ℕ) where
   pub follows_empty : row_count s ≡ 0 → true ≡ follows s t
@@ -44,78 +47,78 @@ module _ (t : List ℕ) (n : ℕ) (e : check_table t ≡ Done n) where
   rows_whole = omega (arith, whole_rows t (done t n e))
 
 module _ (s t : List ℕ) (room : ℕ) where
-  pub refused_first : (k p : ℕ) → check_table s ≡ Refused k p → Refused k p ≡ join_tables s t room
+  pub refused_first : (r : Refusal) → check_table s ≡ Err r → Err r ≡ join_tables s t room
   unfolding join_tables
-  refused_first k p e = sym (rw e)
+  refused_first r e = sym (rw e)
 
   module _ (m : ℕ) (em : check_table s ≡ Done m) where
-    pub refused_second : (k p : ℕ) → check_table t ≡ Refused k p → Refused k p ≡ join_tables s t room
+    pub refused_second : (r : Refusal) → check_table t ≡ Err r → Err r ≡ join_tables s t room
     unfolding join_tables
-    refused_second k p e = sym (rw (em, e))
+    refused_second r e = sym (rw (em, e))
 
     module _ (n : ℕ) (en : check_table t ≡ Done n) (f : Bool) (f_is : f ≡ follows s t) where
-      abbrev after_16 : Answer
-      after_16 =
-          unless (table_length (s ++ t)) 8
-          (unless_any (row_fault (s ++ t) 12) 12 (row_count (s ++ t))
-          (unless (leb (length (s ++ t)) room) 17
+      abbrev from_length : Answer
+      from_length =
+          unless (table_length (s ++ t)) TableLength
+          (unless_any (row_fault (s ++ t) Sibling) Sibling (row_count (s ++ t))
+          (unless (leb (length (s ++ t)) room) ShortOutput
           (Done (length (s ++ t)))))
 
-      begun : join_tables s t room ≡ unless f 16 after_16
+      begun : join_tables s t room ≡ unless f Join from_length
       unfolding join_tables
-      begun = rw (em, en) (ap (λ (b : Bool). unless b 16 after_16) (sym f_is))
+      begun = rw (em, en) (ap (λ (b : Bool). unless b Join from_length) (sym f_is))
 
-      pub refused_16 : f ≡ false → Refused 16 0 ≡ join_tables s t room
-      refused_16 e = sym (begun ∙ ap (λ (b : Bool). unless b 16 after_16) e)
+      pub not_behind : f ≡ false → Refused Join 0 ≡ join_tables s t room
+      not_behind e = sym (begun ∙ ap (λ (b : Bool). unless b Join from_length) e)
 
       module _ (f_true : f ≡ true) where
-        passed_16 : join_tables s t room ≡ after_16
-        passed_16 = begun ∙ ap (λ (b : Bool). unless b 16 after_16) f_true
+        passed_join : join_tables s t room ≡ from_length
+        passed_join = begun ∙ ap (λ (b : Bool). unless b Join from_length) f_true
 
         both_whole : length (s ++ t) % row_words ≡ 0
         both_whole = omega (arith, length-append s t, rows_whole s m em, rows_whole t n en)
 
-        pub refused_8 : row_limit < (length s + length t) / row_words → Refused 8 0 ≡ join_tables s t room
-        refused_8 h =
+        pub too_many : row_limit < (length s + length t) / row_words → Refused TableLength 0 ≡ join_tables s t room
+        too_many h =
             let l : length (s ++ t) ≡ length s + length t = length-append s t in
-            sym (passed_16 ∙ simp (eq-eqb (length (s ++ t) % row_words) 0 both_whole, lt-leb (row_count (s ++ t)) row_limit (rw l h)))
+            sym (passed_join ∙ simp (eq-eqb (length (s ++ t) % row_words) 0 both_whole, lt-leb (row_count (s ++ t)) row_limit (rw l h)))
 
         module _ (few : (length s + length t) / row_words ≤ row_limit) where
-          abbrev after_8 : Answer
-          after_8 =
-              unless_any (row_fault (s ++ t) 12) 12 (row_count (s ++ t))
-              (unless (leb (length (s ++ t)) room) 17
+          abbrev from_twins : Answer
+          from_twins =
+              unless_any (row_fault (s ++ t) Sibling) Sibling (row_count (s ++ t))
+              (unless (leb (length (s ++ t)) room) ShortOutput
               (Done (length (s ++ t))))
 
-          passed_8 : join_tables s t room ≡ after_8
-          passed_8 =
+          passed_length : join_tables s t room ≡ from_twins
+          passed_length =
               let l : length (s ++ t) ≡ length s + length t = length-append s t in
-              passed_16 ∙ simp (eq-eqb (length (s ++ t) % row_words) 0 both_whole, le-leb (row_count (s ++ t)) row_limit (rw l few))
+              passed_join ∙ simp (eq-eqb (length (s ++ t) % row_words) 0 both_whole, le-leb (row_count (s ++ t)) row_limit (rw l few))
 
           module _ (i : ℕ) (i_is : i ≡ first (has_twin (s ++ t)) ((length s + length t) / row_words)) where
-            place_is : i ≡ first (row_fault (s ++ t) 12) (row_count (s ++ t))
+            place_is : i ≡ first (row_fault (s ++ t) Sibling) (row_count (s ++ t))
             unfolding row_fault
             place_is = i_is ∙ ap (λ (n : ℕ). first (has_twin (s ++ t)) (n / row_words)) (sym (length-append s t))
 
             count_is : (length s + length t) / row_words ≡ row_count (s ++ t)
             count_is = ap (λ (n : ℕ). n / row_words) (sym (length-append s t))
 
-            pub refused_12 : i < (length s + length t) / row_words → Refused 12 i ≡ join_tables s t room
-            refused_12 h = sym (passed_8 ∙ rw (← place_is, lt-ltb i (row_count (s ++ t)) (rw count_is at h)))
+            pub twin_refused : i < (length s + length t) / row_words → Refused Sibling i ≡ join_tables s t room
+            twin_refused h = sym (passed_length ∙ rw (← place_is, lt-ltb i (row_count (s ++ t)) (rw count_is at h)))
 
             module _ (none : (length s + length t) / row_words ≤ i) where
-              passed_12 : join_tables s t room ≡ unless (leb (length (s ++ t)) room) 17 (Done (length (s ++ t)))
-              passed_12 = passed_8 ∙ rw (← place_is, le-ltb i (row_count (s ++ t)) (rw count_is at none))
+              passed_twins : join_tables s t room ≡ unless (leb (length (s ++ t)) room) ShortOutput (Done (length (s ++ t)))
+              passed_twins = passed_length ∙ rw (← place_is, le-ltb i (row_count (s ++ t)) (rw count_is at none))
 
-              pub refused_17 : room < length s + length t → Refused 17 0 ≡ join_tables s t room
-              refused_17 h =
+              pub no_room : room < length s + length t → Refused ShortOutput 0 ≡ join_tables s t room
+              no_room h =
                   let l : length (s ++ t) ≡ length s + length t = length-append s t in
-                  sym (passed_12 ∙ simp (lt-leb (length (s ++ t)) room (rw l h)))
+                  sym (passed_twins ∙ simp (lt-leb (length (s ++ t)) room (rw l h)))
 
               pub joined : length s + length t ≤ room → Done (length s + length t) ≡ join_tables s t room
               joined h =
                   let l : length (s ++ t) ≡ length s + length t = length-append s t in
-                  sym (passed_12 ∙ simp (le-leb (length (s ++ t)) room (rw l h)) (ap Done l))
+                  sym (passed_twins ∙ simp (le-leb (length (s ++ t)) room (rw l h)) (ap Done l))
 
 -- an accepted joining fits its buffer
 join_fits : (s t : List ℕ) (room : ℕ) → is_done (join_tables s t room) ≡ true → length (s ++ t) ≤ room
@@ -123,14 +126,14 @@ unfolding join_tables
 join_fits s t room e =
     let a = and_then_next (check_table s) _ e in
     let b = and_then_next (check_table t) _ a in
-    let c = unless_next (follows s t) 16 _ b in
-    let d = unless_next (table_length (s ++ t)) 8 _ c in
-    let f = unless_any_next (row_fault (s ++ t) 12) 12 (row_count (s ++ t)) _ d in
-    leb-true (length (s ++ t)) room (unless_ok (leb (length (s ++ t)) room) 17 _ f)
+    let c = unless_next (follows s t) Join _ b in
+    let d = unless_next (table_length (s ++ t)) TableLength _ c in
+    let f = unless_any_next (row_fault (s ++ t) Sibling) Sibling (row_count (s ++ t)) _ d in
+    leb-true (length (s ++ t)) room (unless_ok (leb (length (s ++ t)) room) ShortOutput _ f)
 
 -- ---- in place
 module _ (pool : List ℕ) (used : ℕ) (t : List ℕ) where
-  pub over_used : length pool < used → (Refused 8 0 ≡ join_answer pool used t) × (pool ≡ join_pool pool used t)
+  pub over_used : length pool < used → (Refused TableLength 0 ≡ join_answer pool used t) × (pool ≡ join_pool pool used t)
   unfolding join_answer join_pool
   over_used h = (sym (simp (lt-leb used (length pool) h)), sym (simp (lt-leb used (length pool) h)))
 
@@ -139,9 +142,9 @@ module _ (pool : List ℕ) (used : ℕ) (t : List ℕ) where
     unfolding join_answer
     answer_is = simp (le-leb used (length pool) l) (sym a_is)
 
-    pub kept : (k p : ℕ) → a ≡ Refused k p → (Refused k p ≡ join_answer pool used t) × (pool ≡ join_pool pool used t)
+    pub kept : (r : Refusal) → a ≡ Err r → (Err r ≡ join_answer pool used t) × (pool ≡ join_pool pool used t)
     unfolding join_pool
-    kept k p e = (sym (answer_is ∙ e), sym (rw (answer_is, e)))
+    kept r e = (sym (answer_is ∙ e), sym (rw (answer_is, e)))
 
     module _ (n : ℕ) (e : a ≡ Done n) where
       room_left : used + length t ≤ length pool

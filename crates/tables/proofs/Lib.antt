@@ -1,10 +1,12 @@
 pub mod Words
 pub mod Values
+pub mod FaultNumbers
 pub mod Answers
 pub mod Whole
 pub mod Ordered
 pub mod Accepted
 pub mod Nesting
+pub mod Checks
 pub mod Faults
 pub mod Linked
 pub mod ParentFaults
@@ -14,6 +16,7 @@ pub mod Parting
 pub mod RowLists
 pub mod RowWords
 pub mod Scanned
+pub mod Searches
 pub mod OrderedRows
 pub mod Proper
 pub mod InPlace

@@ -8,10 +8,11 @@ use lib.ListN.{length}
 use lib.Dec.{eqb, ltb}
 use borrow.Author.Tests.{eqb-true, eqb-false, ne_eqb, ltb-true}
 use Rattle.base.proofs.Bools.{either}
-use Rattle.tables.specs.declared.Answer.TheVariants.{Done, Refused}
+use Rattle.tables.specs.Answers.{Done, Refused}
+use Rattle.tables.specs.declared.reading.Phase.TheVariants.{BeforeNumber}
 use Rattle.tables.specs.declared.reading.Scan.{Scan}
 use Rattle.tables.specs.Words.{word_limit, AllWords}
-use Rattle.tables.specs.Files.{Format, format, is_last, byte_after, may_sign, word_text, text_from, at_fault, word_read, step_of}
+use Rattle.tables.specs.Files.{Format, format, is_last, byte_after, may_sign, word_text, text_from, is_before, at_fault, word_read, step_of}
 use Rattle.tables.specs.Files.{at_start, scan_all, words_from, at_line, lines, read_words, check_file}
 use Rattle.tables.specs.declared.columns.Signs.TheVariants.{Nowhere}
 use Rattle.tables.specs.Scans.{Sound}
@@ -21,6 +22,7 @@ use Rattle.tables.proofs.Steps.{View, begins, grows, ends, takes_sign, stops, vi
 use Rattle.tables.proofs.ReadBack.{Ready, past_word, scan_append, words_append, word_scan}
 use Rattle.tables.proofs.WriteBack.{fresh_back}
 use Rattle.tables.proofs.LineTexts.{number_text_lem, text_line}
+use Rattle.tables.specs.declared.refusals.Fault.TheVariants.{Line}
 
 -- ---- bytes cut into lines
 data Ended : List ℕ → Type 0 where
@@ -67,11 +69,11 @@ lines_joined (b ∷ bs) = either (eqb b 10)
 -- ---- within a line
 -- before the first number of a line
 abbrev fresh : ℕ → ℕ → Scan
-fresh n count = record { phase = 0; minus = false; value = 0; column = 0; told = false; line = n; count = count }
+fresh n count = record { phase = BeforeNumber; number = record { minus = false; value = 0 }; column = record { index = 0; told = false }; line = n; count = count }
 
 record Inside (s r : Scan) : Type 0 where
   same_line : r.line ≡ s.line
-  numbers : r.count + s.column ≡ s.count + r.column
+  numbers : r.count + s.column.index ≡ s.count + r.column.index
   not_done : at_line r ≡ false
 
 after_space : (k c b : ℕ) → b ≡ byte_after k c → (b ≡ 10 → ⊥) → is_last k c ≡ false
@@ -88,11 +90,11 @@ inside (grows d h e p v m) n = record { same_line = refl; numbers = refl; not_do
 inside (takes_sign p e) n = record { same_line = refl; numbers = refl; not_done = refl }
 inside stops n = record { same_line = refl; numbers = refl; not_done = refl }
 inside {f} {s} {b} (ends p e w) n =
-    let q : is_last f.columns s.column ≡ false = after_space f.columns s.column b e n in
+    let q : is_last f.columns s.column.index ≡ false = after_space f.columns s.column.index b e n in
     record {
       same_line = rw q;
       numbers = rw q (omega arith);
-      not_done = rw q (ne_eqb (s.column + 1) 0 (omega arith));
+      not_done = rw q (ne_eqb (s.column.index + 1) 0 (omega arith));
     }
 
 -- a line that is not ended
@@ -107,7 +109,7 @@ scan_open f (on {b} {l} h o) s =
 -- one that is: a fault within it, or the next line
 data Past (f : Format) (s : Scan) : Scan → Type 0 where
   fault : (r : Scan) → r.line ≡ s.line → Past f s (at_fault r)
-  ended : (n : ℕ) → n + s.column ≡ s.count + f.columns → Past f s (fresh (s.line + 1) n)
+  ended : (n : ℕ) → n + s.column.index ≡ s.count + f.columns → Past f s (fresh (s.line + 1) n)
 
 at_end_lem : {f : Format} {s : Scan} {r : Scan} → View f s 10 r → Past f s r
 at_end_lem (begins d h e p) = absurd (omega arith)
@@ -115,8 +117,8 @@ at_end_lem (grows d h e p v m) = absurd (omega arith)
 at_end_lem (takes_sign p e) = absurd (omega arith)
 at_end_lem {f} {s} stops = fault s refl
 at_end_lem {f} {s} (ends p e w) =
-    let q : is_last f.columns s.column ≡ true = after_end f.columns s.column 10 e refl in
-    rw q (ended (s.count + 1) (omega (arith, eqb-true (s.column + 1) f.columns q)))
+    let q : is_last f.columns s.column.index ≡ true = after_end f.columns s.column.index 10 e refl in
+    rw q (ended (s.count + 1) (omega (arith, eqb-true (s.column.index + 1) f.columns q)))
 
 scan_ended : (f : Format) {l : List ℕ} → Ended l → (s : Scan) → Past f s (scan_all f s l)
 unfolding scan_all
@@ -130,17 +132,17 @@ scan_ended f (on {b} {l} h e) s = go (inside (view f s b) h) (scan_ended f e (st
 -- ---- a line of numbers is read to its end
 -- a number's text and the byte after it, at a state
 number_then : (f : Format) (s : Scan) (c : ℕ) (told : Bool) (t : List ℕ) (w b : ℕ) (l : List ℕ) → IsNumber (may_sign f.columns c told) t w → Ready s
-    → s.column ≡ c → s.told ≡ told → byte_after f.columns c ≡ b → scan_all f s (t ++ (b ∷ l)) ≡ scan_all f (past_word f s w) l
+    → s.column.index ≡ c → s.column.told ≡ told → byte_after f.columns c ≡ b → scan_all f s (t ++ (b ∷ l)) ≡ scan_all f (past_word f s w) l
 number_then f s c told t w b l m r ec et eb =
     let z = number_text_lem m in
-    let same : may_sign f.columns s.column s.told ≡ may_sign f.columns c told = rw (ec, et) in
-    let after : byte_after f.columns s.column ≡ b = ap (byte_after f.columns) ec ∙ eb in
-    let text : t ++ (b ∷ l) ≡ word_text (may_sign f.columns s.column s.told) w ++ (byte_after f.columns s.column ∷ l)
+    let same : may_sign f.columns s.column.index s.column.told ≡ may_sign f.columns c told = rw (ec, et) in
+    let after : byte_after f.columns s.column.index ≡ b = ap (byte_after f.columns) ec ∙ eb in
+    let text : t ++ (b ∷ l) ≡ word_text (may_sign f.columns s.column.index s.column.told) w ++ (byte_after f.columns s.column.index ∷ l)
     = ap (λ (x : List ℕ). x ++ (b ∷ l)) z.text ∙ ap (λ (x : Bool). word_text x w ++ (b ∷ l)) (sym same)
-    ∙ ap (λ (x : ℕ). word_text (may_sign f.columns s.column s.told) w ++ (x ∷ l)) (sym after) in
+    ∙ ap (λ (x : ℕ). word_text (may_sign f.columns s.column.index s.column.told) w ++ (x ∷ l)) (sym after) in
     ap (scan_all f s) text ∙ word_scan f s w r z.word l
 
-line_scan : (f : Format) {c : ℕ} {told : Bool} {l ws : List ℕ} → LineFrom f c told l ws → (s : Scan) → Ready s → s.column ≡ c → s.told ≡ told
+line_scan : (f : Format) {c : ℕ} {told : Bool} {l ws : List ℕ} → LineFrom f c told l ws → (s : Scan) → Ready s → s.column.index ≡ c → s.column.told ≡ told
     → (n : ℕ) × (scan_all f s l ≡ fresh (s.line + 1) n)
 unfolding scan_all byte_after
 line_scan f (at_last {c} {told} {t} {w} q m) s r ec et =
@@ -167,7 +169,7 @@ words_small f s (b ∷ bs) t = go (words_small f (step_of f s b) bs (step_sound 
 
 is_line : (f : Format) (n c m : ℕ) (l : List ℕ) → 0 < f.columns → scan_all f (fresh n c) l ≡ fresh (n + 1) m → m ≡ c + f.columns
     → LineFrom f 0 false l (words_from f (fresh n c) l)
-is_line f n c m l pos e h = go (words_from f (fresh n c) l) many small (fresh_back f (fresh n c) l refl refl (ap (λ (z : Scan). z.phase) e))
+is_line f n c m l pos e h = go (words_from f (fresh n c) l) many small (fresh_back f (fresh n c) l refl refl (ap (λ (z : Scan). is_before z.phase) e))
   where
     many : length (words_from f (fresh n c) l) ≡ f.columns
     many = omega (arith, count_words f (fresh n c) l, ap (λ (z : Scan). z.count) e)
@@ -229,11 +231,11 @@ files_by_lines names f file pos st =
 
     go : (r : Scan) → scan_all f at_start (lines names file) ≡ r → Reaches f (lines_of (lines names file)) 2 (words_from f at_start (lines names file)) r
         → ByLines f (lines_of (lines names file)) (words_from f at_start (lines names file))
-        (cond (at_line (scan_all f at_start (lines names file))) (Done (length (words_from f at_start (lines names file)))) (Refused 19 (scan_all f at_start (lines names file)).line))
+        (cond (at_line (scan_all f at_start (lines names file))) (Done (length (words_from f at_start (lines names file)))) (Refused Line (scan_all f at_start (lines names file)).line))
     go r e (all_lines a d) = rw (e, d) (every_line a)
     go r e (to_first i b a x d z) =
         let p : i + 2 ≡ r.line = omega arith in
-        rw (e, d) (subst (λ (m : ℕ). ByLines f (lines_of (lines names file)) (words_from f at_start (lines names file)) (Refused 19 m)) p (first_other i b a x))
+        rw (e, d) (subst (λ (m : ℕ). ByLines f (lines_of (lines names file)) (words_from f at_start (lines names file)) (Refused Line m)) p (first_other i b a x))
 
 -- ---- where a sign may stand
 pub where_signs : WhereSigns

@@ -12,10 +12,10 @@ use lib.Dec.{eqb}
 use borrow.Author.Tests.{eqb-true, eq-eqb, ltb-true}
 use Rattle.base.specs.Search.{first, some}
 use Rattle.base.proofs.Bools.{either}
-use Rattle.base.proofs.Search.{Passed, begin, hit, miss, at_first, none_at, some_at, some_none}
+use Rattle.base.proofs.Search.{at_first, none_at, some_at, some_none}
 use Rattle.tables.specs.Tables.{row_limit}
-use Rattle.tables.specs.Links.{hashes, hash_of}
-use Rattle.tables.specs.Links.{last_of, Linked, Heads}
+use Rattle.tables.specs.Links.{hashes, last_of, Linked, Heads, Chained}
+use Rattle.tables.specs.declared.links.Chains.{Chains}
 
 -- ---- the last number at which a test holds
 module _ (p : ℕ → Bool) where
@@ -147,6 +147,9 @@ get_d_same z zero j = refl
 get_d_same z (suc n) zero = refl
 get_d_same z (suc n) (suc j) = get_d_same z n j
 
+pub none_yet : (n j k : ℕ) → get_or (replicate n 0) j 0 ≤ k
+none_yet n j k = omega (arith, get_d_same 0 n j)
+
 pub heads_none : (hash : ℕ → ℕ) → Heads hash (replicate hashes 0) 0
 unfolding last_of
 heads_none hash = record { long = refl; lasts = λ h l. get_d_same 0 hashes h }
@@ -154,31 +157,19 @@ heads_none hash = record { long = refl; lasts = λ h l. get_d_same 0 hashes h }
 pub linked_none : (hash : ℕ → ℕ) → Linked hash (replicate row_limit 0) 0
 linked_none hash = record { long = refl; fits = omega arith; links = λ j l. absurd (omega arith) }
 
--- ---- the outer loop: i rows passed without the fault, all of them linked
-pub record Looking (hash : ℕ → ℕ) (fault : ℕ → Bool) (n : ℕ) (head next : List ℕ) (i : ℕ) : Type 0 where
-  pub passed : Passed fault n i
-  pub linked : Linked hash next i
-  pub heads : Heads hash head i
+-- ---- the chains of the first rows, and one row more
+pub chained_none : (hash : ℕ → ℕ) (c : Chains) → c.head ≡ replicate hashes 0 → c.next ≡ replicate row_limit 0 → c.rows ≡ 0 → Chained hash c
+chained_none hash c h n r = record {
+  heads = rw (h, r) (heads_none hash);
+  linked = rw (n, r) (linked_none hash);
+}
 
-pub look_begin : (hash : ℕ → ℕ) (fault : ℕ → Bool) (n : ℕ) → Looking hash fault n (replicate hashes 0) (replicate row_limit 0) 0
-look_begin hash fault n = record { passed = begin fault n; linked = linked_none hash; heads = heads_none hash }
-
-module _ {hash : ℕ → ℕ} {fault : ℕ → Bool} {n : ℕ} {head next : List ℕ} {i : ℕ}
-    (look : Looking hash fault n head next i) (l : i < n) where
-  pub look_hit : fault i ≡ true → i ≡ first fault n
-  look_hit e = hit fault n i look.passed l e
-
-  pub look_more : fault i ≡ false → n ≤ row_limit → {h : ℕ} → h ≡ hash i → h < hashes
-      → {head' next' : List ℕ} → head' ≡ set head h (i + 1) → next' ≡ set next i (get_or head h 0) → Looking hash fault n head' next' (i + 1)
-  look_more e small {h} h-is below head-is next_is =
-      let k_is : get_or head h 0 ≡ last_of (λ m. eqb (hash m) (hash i)) i = last_is hash head i look.heads h-is (rw h-is at below) in
+module _ (hash : ℕ → ℕ) {h : ℕ} {c : Chains} where
+  pub chained_more : h ≡ hash c.rows → c.rows < row_limit → h < hashes → Chained hash c → {d : Chains}
+      → d.head ≡ set c.head h (c.rows + 1) → d.next ≡ set c.next c.rows (get_or c.head h 0) → d.rows ≡ c.rows + 1 → Chained hash d
+  chained_more h_is room below ch {d} head_is next_is rows_is =
+      let k_is : get_or c.head h 0 ≡ last_of (λ m. eqb (hash m) (hash c.rows)) c.rows = last_is hash c.head c.rows ch.heads h_is (rw h_is at below) in
       record {
-        passed = miss fault n i look.passed l e;
-        linked = rw next_is (linked_more hash i (get_or head h 0) k_is (omega arith) next look.linked);
-        heads = rw head-is (heads_more hash i (get_or head h 0) k_is (omega arith) head h h-is below look.heads);
+        heads = rw (head_is, rows_is) (heads_more hash c.rows (get_or c.head h 0) k_is room c.head h h_is below ch.heads);
+        linked = rw (next_is, rows_is) (linked_more hash c.rows (get_or c.head h 0) k_is room c.next ch.linked);
       }
-
--- ---- a hash is below the number of heads
-pub hash_below : (d a n v : ℕ) → hash_of d a n v < hashes
-unfolding hash_of
-hash_below d a n v = omega arith

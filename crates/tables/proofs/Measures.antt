@@ -17,7 +17,8 @@ use Rattle.base.proofs.Counts.{Counted, count_hit, count_miss}
 use Rattle.powers.specs.Powers.{word_digits, power_at}
 use Rattle.powers.proofs.Powers.{power_is}
 use Rattle.tables.specs.Values.{value_limit, is_below_zero, opposite}
-use Rattle.tables.specs.Files.{Format, byte_after, next_column, told_next, may_sign, number_text, word_text, text_from, lines_text}
+use Rattle.tables.specs.declared.columns.Column.{Column}
+use Rattle.tables.specs.Files.{Format, byte_after, next_column, told_next, column_after, may_sign, number_text, word_text, text_from, lines_text}
 use Rattle.tables.specs.Scans.{plain_length, count_from}
 use Rattle.tables.proofs.Digits.{text_le, text_pos, digits_many, narrow_below}
 
@@ -168,10 +169,10 @@ module _ (f : Format) where
         sym (lt-leb (length (lines_text f ws)) room (omega (arith, (text_taken 0 false ws).least)))
 
 -- ---- word by word: what is left of the room is for the rest
-pub record Fitting (f : Format) (ws : List ℕ) (room left c : ℕ) (told : Bool) (i : ℕ) : Type 0 where
+pub record Fitting (f : Format) (ws : List ℕ) (room left : ℕ) (c : Column) (i : ℕ) : Type 0 where
   pub within : i ≤ length ws
-  pub column : c < f.columns
-  pub rest : room + length (text_from f c told (drop i ws)) ≡ left + length (lines_text f ws)
+  pub column : c.index < f.columns
+  pub rest : room + length (text_from f c.index c.told (drop i ws)) ≡ left + length (lines_text f ws)
 
 -- the text from the word i on
 pub next_text : (f : Format) (ws : List ℕ) (c : ℕ) (told : Bool) (i : ℕ) → i < length ws
@@ -188,27 +189,27 @@ pub next_length : (f : Format) (ws : List ℕ) (c : ℕ) (told : Bool) (i : ℕ)
 next_length f ws c told i h = ap (λ (l : List ℕ). length (text_from f c told l)) (drop-cons ws i 0 h) ∙ text_length f c told (get_or ws i 0) (drop (suc i) ws) ∙ rw (add-one i)
 
 module _ (f : Format) (ws : List ℕ) (room : ℕ) where
-  pub fit_begin : 0 < f.columns → Fitting f ws room room 0 false 0
-  fit_begin h = record { within = omega arith; column = h; rest = refl }
+  pub fit_begin : (c : Column) → c ≡ record { index = 0; told = false } → 0 < f.columns → Fitting f ws room room c 0
+  fit_begin c e h = rw e (record { within = omega arith; column = h; rest = refl })
 
-  module _ (left c : ℕ) (told : Bool) (i : ℕ) (t : Fitting f ws room left c told i) (h : i < length ws)
-      (signed : Bool) (es : signed ≡ may_sign f.columns c told) (n : ℕ) (e : n ≡ length (word_text signed (get_or ws i 0)) + 1) where
-    takes : length (text_from f c told (drop i ws)) ≡ n + length (text_from f (next_column f.columns c) (told_next f c (get_or ws i 0) told) (drop (i + 1) ws))
-    takes = next_length f ws c told i h ∙ rw (e, es)
+  module _ (left : ℕ) (c : Column) (i : ℕ) (t : Fitting f ws room left c i) (h : i < length ws)
+      (signed : Bool) (es : signed ≡ may_sign f.columns c.index c.told) (n : ℕ) (e : n ≡ length (word_text signed (get_or ws i 0)) + 1) where
+    takes : length (text_from f c.index c.told (drop i ws))
+        ≡ n + length (text_from f (next_column f.columns c.index) (told_next f c.index (get_or ws i 0) c.told) (drop (i + 1) ws))
+    takes = next_length f ws c.index c.told i h ∙ rw (e, es)
 
     pub fit_short : left < n → false ≡ leb (length (lines_text f ws)) room
     fit_short l = sym (lt-leb (length (lines_text f ws)) room (omega (arith, t.rest, takes)))
 
-    pub fit_more : (d : ℕ) (next : Bool) → n ≤ left → next ≡ told_next f c (get_or ws i 0) told → d ≡ next_column f.columns c → d < f.columns
-        → Fitting f ws room (left - n) d next (i + 1)
-    fit_more d next l en ed dl = rw (en, ed) (record {
+    pub fit_more : (d : Column) → n ≤ left → d ≡ column_after f c (get_or ws i 0) → d.index < f.columns → Fitting f ws room (left - n) d (i + 1)
+    fit_more d l ed dl = rw ed (record {
       within = omega arith;
       column = rw ed at dl;
       rest = omega (arith, t.rest, takes);
     })
 
-  pub fit_end : (left c : ℕ) (told : Bool) (i : ℕ) → Fitting f ws room left c told i → length ws ≤ i → true ≡ leb (length (lines_text f ws)) room
+  pub fit_end : (left : ℕ) (c : Column) (i : ℕ) → Fitting f ws room left c i → length ws ≤ i → true ≡ leb (length (lines_text f ws)) room
   unfolding text_from
-  fit_end left c told i t h =
-      let none : length (text_from f c told (drop i ws)) ≡ 0 = ap (λ (l : List ℕ). length (text_from f c told l)) (drop_of_length-le ws h) in
+  fit_end left c i t h =
+      let none : length (text_from f c.index c.told (drop i ws)) ≡ 0 = ap (λ (l : List ℕ). length (text_from f c.index c.told l)) (drop_of_length-le ws h) in
       sym (le-leb (length (lines_text f ws)) room (omega (arith, t.rest)))

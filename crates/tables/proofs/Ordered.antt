@@ -14,14 +14,17 @@ use Rattle.base.specs.Lists.{◌∈◌}
 use Rattle.base.specs.Search.{first, some}
 use Rattle.base.proofs.Bools.{either, and_left, and_right, and_both, or_left, or_right}
 use Rattle.base.proofs.Search.{at_first, none_before, some_at}
-use Rattle.tables.specs.Answers.{is_done, in_order}
+use Rattle.tables.specs.Answers.{value, Done, is_done, in_order}
 use Rattle.tables.specs.Words.{not_identifier, row_words, row_at, row_count}
 use Rattle.tables.specs.Tables.{root, is_parent, is_deeper, is_above, out_of_range, not_above, no_parent, wrong_depth, row_fault, row_limit, table_length, table_checks, check_table, order_checks, check_order, ordered_table}
 use Rattle.tables.specs.Devices.{from_device}
-use Rattle.tables.specs.declared.Answer.TheVariants.{Refused}
+use Rattle.tables.specs.Answers.{Refused}
 use Rattle.tables.specs.declared.Row.{Row}
 use Rattle.tables.proofs.Answers.{before, unless_ok, unless_next, unless_passed, unless_past, listed, no_fault, in_order_passed, FirstAtFault, first_at_fault, passed_earlier}
 use Rattle.tables.proofs.Whole.{whole_lines, table_whole, table_few}
+use Rattle.tables.specs.declared.refusals.Fault.TheVariants.{TableLength, Range, Order, Parent, Depth}
+use Rattle.tables.specs.declared.refusals.Fault.{Fault}
+use Rattle.tables.specs.Refusals.{number_of}
 
 identifier : (x : ℕ) → not_identifier x ≡ false → (1 ≤ x) × (x ≤ 65535)
 identifier x e =
@@ -36,11 +39,11 @@ parent_at r p e = eqb-true p.at r.up (and_right (eqb p.device r.device) (eqb p.a
 
 module _ (t : List ℕ) where
   -- without faults but 12 it is ordered
-  pub order : table_length t ≡ true → ((k : ℕ) → k ∈ order_checks → (i : ℕ) → i < row_count t → row_fault t k i ≡ false) → ordered_table t ≡ true
+  pub order : table_length t ≡ true → ((k : Fault) → k ∈ order_checks → (i : ℕ) → i < row_count t → row_fault t k i ≡ false) → ordered_table t ≡ true
   unfolding check_order
   order l h =
       ap is_done
-      (unless_passed (table_length t) 8 (in_order (row_fault t) (row_count t) order_checks) l ∙ in_order_passed (row_fault t) (row_count t) order_checks h)
+      (unless_passed (table_length t) TableLength (in_order (row_fault t) (row_count t) order_checks) l ∙ in_order_passed (row_fault t) (row_count t) order_checks h)
 
 -- ---- no row has a fault of 9 to 11
 pub record Placed (t : List ℕ) : Type 0 where
@@ -49,9 +52,9 @@ pub record Placed (t : List ℕ) : Type 0 where
   pub no_11 : (i : ℕ) → i < row_count t → no_parent t i ≡ false
 
 -- by the list of the checks: a table whose rows have no fault of these numbers
-pub placed_by : (t : List ℕ) → ((k : ℕ) → before k 26 table_checks ≡ true → (i : ℕ) → i < row_count t → row_fault t k i ≡ false) → Placed t
+pub placed_by : (t : List ℕ) → ((k : Fault) → before k Depth table_checks ≡ true → (i : ℕ) → i < row_count t → row_fault t k i ≡ false) → Placed t
 unfolding row_fault
-placed_by t h = record { no_9 = h 9 refl; no_10 = h 10 refl; no_11 = h 11 refl }
+placed_by t h = record { no_9 = h Range refl; no_10 = h Order refl; no_11 = h Parent refl }
 
 module _ (t : List ℕ) (ok : Placed t) where
   -- ---- ranges
@@ -197,7 +200,7 @@ module _ (t : List ℕ) (i : ℕ) (e : root (row_at t i) ≡ false) where
 module _ (t : List ℕ) (ok : ordered_table t ≡ true) where
   pub length_ok : table_length t ≡ true
   unfolding check_order
-  length_ok = unless_ok (table_length t) 8 (in_order (row_fault t) (row_count t) order_checks) ok
+  length_ok = unless_ok (table_length t) TableLength (in_order (row_fault t) (row_count t) order_checks) ok
 
   -- the words are those of whole rows
   pub whole_rows : length t ≡ row_words * row_count t
@@ -207,21 +210,29 @@ module _ (t : List ℕ) (ok : ordered_table t ≡ true) where
   few_rows = table_few t length_ok
 
   -- no row has a fault but 12
-  faultless : (k : ℕ) → k ∈ order_checks → (i : ℕ) → i < row_count t → row_fault t k i ≡ false
+  faultless : (k : Fault) → k ∈ order_checks → (i : ℕ) → i < row_count t → row_fault t k i ≡ false
   unfolding check_order
-  faultless = no_fault (row_fault t) (row_count t) order_checks (unless_next (table_length t) 8 (in_order (row_fault t) (row_count t) order_checks) ok)
+  faultless = no_fault (row_fault t) (row_count t) order_checks (unless_next (table_length t) TableLength (in_order (row_fault t) (row_count t) order_checks) ok)
+
+  -- the checks answer the number of rows
+  pub order_count : (n : ℕ) → check_order t ≡ Done n → n ≡ row_count t
+  unfolding check_order
+  order_count n e =
+      let all = unless_passed (table_length t) TableLength (in_order (row_fault t) (row_count t) order_checks) length_ok
+      ∙ in_order_passed (row_fault t) (row_count t) order_checks faultless in
+      ap value (sym e ∙ all)
 
   pub placed : Placed t
   unfolding row_fault
   placed = record {
-    no_9 = faultless 9 (listed order_checks 9 refl);
-    no_10 = faultless 10 (listed order_checks 10 refl);
-    no_11 = faultless 11 (listed order_checks 11 refl);
+    no_9 = faultless Range (listed order_checks Range refl);
+    no_10 = faultless Order (listed order_checks Order refl);
+    no_11 = faultless Parent (listed order_checks Parent refl);
   }
 
   no_26 : (i : ℕ) → i < row_count t → wrong_depth t i ≡ false
   unfolding row_fault
-  no_26 = faultless 26 (listed order_checks 26 refl)
+  no_26 = faultless Depth (listed order_checks Depth refl)
 
   -- ---- depths: 0 at a root, one more than the parent's elsewhere
   pub root_depth : (i : ℕ) → i < row_count t → root (row_at t i) ≡ true → (row_at t i).deep ≡ 0
@@ -245,15 +256,15 @@ module _ (t : List ℕ) (ok : ordered_table t ≡ true) where
   depth_le i h = depth_below (suc i) i (omega arith) h
 
 -- ---- a refused table: but for 8, the place is the first row with the fault of that number, and no row has an earlier one
-module _ (t : List ℕ) (k p : ℕ) (h : 8 < k) (refused : check_table t ≡ Refused k p) where
+module _ (t : List ℕ) (k : Fault) (p : ℕ) (h : TableLength ≡ k → ⊥) (refused : check_table t ≡ Refused k p) where
   in_rows : in_order (row_fault t) (row_count t) table_checks ≡ Refused k p
   unfolding check_table
-  in_rows = unless_past (table_length t) 8 _ (λ e. omega arith) refused
+  in_rows = unless_past (table_length t) TableLength _ k p h refused
 
   pub refused_row : FirstAtFault (row_fault t) (row_count t) k p
   refused_row = first_at_fault (row_fault t) (row_count t) k p table_checks in_rows
 
-  pub passed_rows : (x : ℕ) → before x k table_checks ≡ true → (i : ℕ) → i < row_count t → row_fault t x i ≡ false
+  pub passed_rows : (x : Fault) → before x k table_checks ≡ true → (i : ℕ) → i < row_count t → row_fault t x i ≡ false
   passed_rows = passed_earlier (row_fault t) (row_count t) k p table_checks in_rows
 
 -- with 26: rows before it have right depths, and no row has a fault of 9 to 11
@@ -263,13 +274,16 @@ pub record FirstDepth (t : List ℕ) (i : ℕ) : Type 0 where
   pub none_earlier : (j : ℕ) → j < i → wrong_depth t j ≡ false
   pub placed_rows : Placed t
 
-pub refused_26 : (t : List ℕ) (i : ℕ) → check_table t ≡ Refused 26 i → FirstDepth t i
+not_length : TableLength ≡ Depth → ⊥
+not_length e = let z : number_of TableLength ≡ number_of Depth = ap number_of e in omega arith
+
+pub refused_26 : (t : List ℕ) (i : ℕ) → check_table t ≡ Refused Depth i → FirstDepth t i
 unfolding row_fault
 refused_26 t i e =
-    let r = refused_row t 26 i (omega arith) e in
+    let r = refused_row t Depth i not_length e in
     record {
       inside = r.inside;
       at_fault_lem = r.at_fault_lem;
       none_earlier = r.none_earlier;
-      placed_rows = placed_by t (passed_rows t 26 i (omega arith) e);
+      placed_rows = placed_by t (passed_rows t Depth i not_length e);
     }

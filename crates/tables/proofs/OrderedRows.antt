@@ -19,6 +19,7 @@ use Rattle.tables.specs.declared.Row.{Row}
 use Rattle.tables.proofs.Ordered.{order, Placed, placed, has_parent, root_depth, child_depth, fits_depth, rises, strictly, parent_at, parent_device}
 use Rattle.tables.proofs.ParentFaults.{depth_parent}
 use Rattle.tables.proofs.RowLists.{from_in, from_out, row_in, row_out}
+use Rattle.tables.specs.declared.refusals.Fault.{Fault}
 
 -- ---- order
 abbrev pub Above : Row → Row → Type 0
@@ -223,7 +224,7 @@ module _ (t : List ℕ) (short : table_length t ≡ true) (ok : Ordered (rows t)
   parented : (i : ℕ) → i < row_count t → no_parent t i ≡ false
   parented i h = depth_parent t i (deep_right i h)
 
-  pub rows_faultless : (k : ℕ) → k ∈ order_checks → (i : ℕ) → i < row_count t → row_fault t k i ≡ false
+  pub rows_faultless : (k : Fault) → k ∈ order_checks → (i : ℕ) → i < row_count t → row_fault t k i ≡ false
   unfolding row_fault
   rows_faultless k (Memᴰ.tail (Memᴰ.tail (Memᴰ.tail (Memᴰ.tail x17)))) i h = elim x17 [ ]
   rows_faultless k (Memᴰ.head e) i h = rw e (ok.parented.ranged (row_at t i) (row_in t i h))

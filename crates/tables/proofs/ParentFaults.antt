@@ -1,52 +1,26 @@
--- The pass over the parents: what it finds, row by row, are the first faults 11 and 26. Assumes nothing.
-use Prim.Native.Nat.{ℕ, ◌+◌, ◌<◌, ◌≤◌}
-use mathlib.Core.Path.{◌≡◌, refl, sym, ap, ap₂, fun_ext, ◌∙◌}
-use mathlib.Core.Bool.{Bool, true, false, cond, not, ◌&&◌, ◌||◌, and-true, true≢false}
+-- The pass over the parents: what it finds, row by row, are the first faults 11 and 26, and what its answer tells. Assumes nothing.
+use Prim.Native.Nat.{ℕ, ◌<◌}
+use mathlib.Core.Path.{◌≡◌, sym, ap, ap₂, fun_ext, ◌∙◌}
+use mathlib.Core.Bool.{Bool, true, false, cond, not, ◌&&◌, ◌||◌, and-true}
 use mathlib.Core.List.{List}
 use native.Mathlib.Omega.{arith}
 use lib.Dec.{eqb}
-use borrow.Author.Tests.{eqb-true, eq-eqb, ne_eqb, ltb-true, not-false}
-use Rattle.base.specs.Search.{first, some}
+use borrow.Author.Tests.{eqb-true, ltb-true, lt-ltb, le-ltb, not-false}
+use Rattle.base.specs.Search.{first, some, found}
 use Rattle.base.proofs.Bools.{either, and_left, and_right}
-use Rattle.base.proofs.Search.{Passed, begin, hit, miss, none, at_first, some_at}
+use Rattle.base.proofs.Search.{at_first, some_at}
 use Rattle.tables.specs.Words.{row_at}
 use Rattle.tables.specs.Tables.{root, is_parent, is_deeper, no_parent, wrong_depth}
 use Rattle.tables.specs.declared.Row.{Row}
-use Rattle.tables.specs.Links.{hashes}
-use Rattle.tables.specs.Links.{place_hash, fits_parent, parent_number, noted_of}
-use Rattle.tables.proofs.Linked.{hash_below}
-
--- ---- a first place that is noted while a search goes on: none so far, or found
-pub record Noted (fault : ℕ → Bool) (n d i : ℕ) : Type 0 where
-  pub none_yet : d ≡ n → Passed fault n i
-  pub found : (d ≡ n → ⊥) → d ≡ first fault n
-
-module _ (fault : ℕ → Bool) (n : ℕ) where
-  pub note_begin : Noted fault n n 0
-  note_begin = record { none_yet = λ e. begin fault n; found = λ e. absurd (e refl) }
-
-  pub note_more : (d i : ℕ) → Noted fault n d i → i < n → (b : Bool) → b ≡ fault i → Noted fault n (noted_of d n i b) (i + 1)
-  unfolding noted_of
-  note_more d i noted l b b_is = go b (eqb d n) refl b_is
-    where
-      go : (b z : Bool) → eqb d n ≡ z → b ≡ fault i → Noted fault n (cond (b && z) i d) (i + 1)
-      go true true e f = record {
-        none_yet = λ q. absurd (omega arith);
-        found = λ q. hit fault n i (noted.none_yet (eqb-true d n e)) l (sym f);
-      }
-      go true false e f = record { none_yet = λ q. absurd (true≢false (sym (eq-eqb d n q) ∙ e)); found = noted.found }
-      go false z e f = record { none_yet = λ q. miss fault n i (noted.none_yet q) l (sym f); found = noted.found }
-
-  pub note_end : (d i : ℕ) → Noted fault n d i → n ≤ i → d ≡ first fault n
-  note_end d i noted l = either (eqb d n)
-      (λ e. eqb-true d n e ∙ none fault n i (noted.none_yet (eqb-true d n e)) l)
-      (λ e. noted.found (λ q. true≢false (sym (eq-eqb d n q) ∙ e)))
+use Rattle.tables.specs.Links.{place_hash, fits_parent, parent_fault, check_parents}
+use Rattle.tables.specs.Refusals.{refusal_at}
+use Rattle.tables.specs.declared.refusals.Refusal.{Refusal}
+use Rattle.tables.specs.declared.refusals.Fault.{Fault}
+use Rattle.tables.specs.declared.refusals.Fault.TheVariants.{Parent, Depth}
+use Rattle.std.specs.Prelude.{Some, None, Result, Err}
+use Rattle.tables.proofs.Searches.{found_some, found_none}
 
 -- ---- a parent has the hash of device and up
-pub place_below : (d a : ℕ) → place_hash d a < hashes
-unfolding place_hash
-place_below d a = hash_below _ _ _ _
-
 pub parent_hash : (deep : Bool) (r p : Row) → fits_parent deep r p ≡ true
     → place_hash p.device p.at ≡ place_hash r.device r.up
 unfolding fits_parent
@@ -55,15 +29,6 @@ parent_hash deep r p e =
     let a : Bool = eqb p.at r.up in
     let f : d && a ≡ true = and_left (d && a) (not deep || is_deeper r p) e in
     ap₂ place_hash (eqb-true _ _ (and_left d a f)) (eqb-true _ _ (and_right d a f))
-
-pub not_parent : (d : Bool) (r p : Row) → (p.at ≡ r.up → ⊥) → false ≡ fits_parent d r p
-unfolding fits_parent
-not_parent d r p h = sym (go (eqb p.device r.device) (eqb p.at r.up) (ne_eqb _ _ h))
-  where
-    go : (a b : Bool) → b ≡ false → ((a && b) && (not d || is_deeper r p)) ≡ false
-    go true true e = absurd (true≢false e)
-    go true false e = refl
-    go false b e = refl
 
 -- ---- the faults of row i, read as r
 module _ (t : List ℕ) (i : ℕ) (r : Row) (r_is : r ≡ row_at t i) where
@@ -88,26 +53,35 @@ depth_parent t i e = either (root (row_at t i))
     let p = and_left (is_parent (row_at t i) (row_at t (first fits i))) _ (at_first fits i l) in
     rw (o, some_at (λ j. is_parent (row_at t i) (row_at t j)) i (first fits i) l p))
 
--- what the number of its fault tells of row i
-module _ (t : List ℕ) (i f : ℕ) (f_is : f ≡ parent_number t i) where
-  pub number_11 : f ≡ 11 → no_parent t i ≡ true
-  unfolding parent_number
-  number_11 e = go (wrong_depth t i) (no_parent t i) (sym f_is ∙ e)
-    where
-      go : (a b : Bool) → ◌≡◌ {A = ℕ} (cond a (cond b 11 26) 0) 11 → b ≡ true
-      go true true z = refl
-      go true false z = absurd (omega arith)
-      go false b z = absurd (omega arith)
+-- what its fault tells of row i
+module _ (t : List ℕ) (i : ℕ) where
+  pub no_fault : None ≡ parent_fault t i → (no_parent t i ≡ false) × (wrong_depth t i ≡ false)
+  unfolding parent_fault
+  no_fault e = either (wrong_depth t i)
+      (λ p. let q : None ≡ Some (cond (no_parent t i) Parent Depth) = (rw p at e) in absurd cc)
+      (λ p. (depth_parent t i p, p))
 
-  module _ (h : f ≡ 11 → ⊥) where
-    pub has_parent : no_parent t i ≡ false
-    unfolding parent_number
-    has_parent = either (wrong_depth t i)
-        (λ p. either (no_parent t i) (λ q. absurd (h (f_is ∙ rw (p, q)))) (λ q. q))
-        (depth_parent t i)
+  pub is_fault : (f : Fault) → Some f ≡ parent_fault t i → (f ≡ cond (no_parent t i) Parent Depth) × (wrong_depth t i ≡ true)
+  unfolding parent_fault
+  is_fault f e = either (wrong_depth t i)
+      (λ p. let q : Some f ≡ Some (cond (no_parent t i) Parent Depth) = (rw p at e) in let z : f ≡ cond (no_parent t i) Parent Depth = cc in (z, p))
+      (λ p. let q : Some f ≡ None = (rw p at e) in absurd cc)
 
-    pub number_26 : eqb f 26 ≡ wrong_depth t i
-    unfolding parent_number
-    number_26 = either (wrong_depth t i)
-        (λ p. eq-eqb f 26 (f_is ∙ rw (p, has_parent)) ∙ sym p)
-        (λ p. ne_eqb f 26 (λ e. let z : f ≡ 0 = f_is ∙ rw p in omega arith) ∙ sym p)
+  pub is_parent_fault : (f : Fault) → Some f ≡ parent_fault t i → f ≡ Parent → no_parent t i ≡ true
+  is_parent_fault f e h = either (no_parent t i)
+      (λ p. p)
+      (λ p. let q : Parent ≡ Depth = sym h ∙ (rw p at (is_fault f e).0) in absurd cc)
+
+  pub is_other_fault : (f : Fault) → Some f ≡ parent_fault t i → (f ≡ Parent → ⊥) → (no_parent t i ≡ false) × (wrong_depth t i ≡ true)
+  is_other_fault f e h = (either (no_parent t i) (λ p. absurd (h (rw p at (is_fault f e).0))) (λ p. p), (is_fault f e).1)
+
+-- ---- what the pass answers
+module _ (t : List ℕ) (n : ℕ) where
+  pub missing_first : (i : ℕ) → found (no_parent t) n ≡ Some i → Err (record { fault = Parent; place = i }) ≡ check_parents t n
+  missing_first i e =
+      let f = found_some (no_parent t) n i e in
+      let l : first (no_parent t) n < n = omega (arith, f.0, f.1) in
+      sym (rw (lt-ltb _ _ l, ← f.0))
+
+  pub none_missing : found (no_parent t) n ≡ None → (r : Result (Unit {0}) Refusal) → r ≡ refusal_at Depth (found (wrong_depth t) n) → r ≡ check_parents t n
+  none_missing e r r_is = r_is ∙ sym (rw (le-ltb _ _ (found_none (no_parent t) n e)))

@@ -2,18 +2,15 @@
 -- Assumes nothing.
 use Prim.Native.Nat.{ℕ, ◌<◌}
 use mathlib.Core.Path.{◌≡◌, sym, ap, subst}
-use mathlib.Core.Bool.{Bool, true, false, not}
+use mathlib.Core.Bool.{Bool, true, false}
 use mathlib.Core.List.{List}
 use native.Mathlib.Omega.{arith}
-use lib.Dec.{eqb}
-use borrow.Author.Tests.{eqb-true}
 use Rattle.base.specs.Lists.{◌∈◌, select}
-use Rattle.base.proofs.Bools.{either}
-use Rattle.base.proofs.Lists.{select_in, select_out}
+use Rattle.base.proofs.Lists.{select_out}
 use Rattle.base.proofs.Search.{some_none}
 use Rattle.tables.specs.Answers.{is_done}
 use Rattle.tables.specs.Words.{row_at, row_count, rows}
-use Rattle.tables.specs.Tables.{root, is_parent, is_twin, has_twin, row_fault, table_length, table_checks, accepted_table, but12}
+use Rattle.tables.specs.Tables.{root, is_parent, is_twin, has_twin, row_fault, table_length, table_checks, accepted_table}
 use Rattle.tables.specs.declared.Row.{Row}
 use Rattle.tables.proofs.Ordered.{placed}
 use Rattle.tables.proofs.Accepted.{accept, ordered, no_twin}
@@ -21,6 +18,10 @@ use Rattle.tables.proofs.RowLists.{row_in, row_out}
 use Rattle.tables.proofs.OrderedRows as laws
 use Rattle.tables.proofs.OrderedRows.{Ordered, ordered_select, before, rows_above, rows_ordered, above_at, rows_faultless}
 pub use Rattle.tables.proofs.OrderedRows.{Above, above_key, Key, Rising, none_rise, more_rise, rising_key, rising_across}
+use Rattle.tables.specs.declared.refusals.Fault.{Fault}
+use Rattle.tables.proofs.Answers.{first_or_last}
+use mathlib.Core.Logic.{⊎_elim}
+use Rattle.tables.specs.Tables.{order_checks}
 
 -- ---- what the checks of rows say
 pub record Proper (T : List Row) : Type 0 where
@@ -59,11 +60,12 @@ module _ (t : List ℕ) (short : table_length t ≡ true) (ok : Proper (rows t))
       some_none (λ j. is_twin (row_at t i) (row_at t j)) i
       (λ j l. ok.siblings (row_at t i) (row_at t j) (row_in t i h) (row_in t j (omega arith)) (above_at t short ok.order j i l h))
 
-  faultless : (k : ℕ) → k ∈ table_checks → (i : ℕ) → i < row_count t → row_fault t k i ≡ false
+  faultless : (k : Fault) → k ∈ table_checks → (i : ℕ) → i < row_count t → row_fault t k i ≡ false
   unfolding row_fault
-  faultless k m i h = either (eqb k 12)
-      (λ e. rw (eqb-true k 12 e) (apart_at i h))
-      (λ e. rows_faultless t short ok.order k (select_in but12 m (ap not e)) i h)
+  faultless k m i h = ⊎_elim
+      (λ f. rows_faultless t short ok.order k f i h)
+      (λ e. rw e (apart_at i h))
+      (first_or_last order_checks m)
 
   pub proper_accepted : accepted_table t ≡ true
   proper_accepted = ap is_done (accept t short faultless)

@@ -10,15 +10,16 @@ use lib.Seq.{drop-append_seam}
 use lib.Dec.{ltb}
 use borrow.Author.Tests.{ltb-true, ltb-false, lt-ltb, le-leb, eq-eqb, eqb-true, eqb-false}
 use Rattle.base.proofs.Bools.{either}
+use Rattle.tables.specs.declared.reading.Phase.TheVariants.{BeforeNumber}
 use Rattle.tables.specs.declared.reading.Scan.{Scan}
 use Rattle.tables.specs.Answers.{is_done}
 use Rattle.tables.specs.Words.{word_limit, AllWords, whole}
 use Rattle.tables.specs.Values.{value_limit, is_below_zero, opposite}
-use Rattle.tables.specs.Files.{Format, is_last, byte_after, next_column, told_next, may_sign, digit_byte, minus_byte, digit_of}
+use Rattle.tables.specs.Files.{Format, is_last, byte_after, next_column, column_after, may_sign, is_before, may_begin, in_digits, digit_byte, minus_byte, digit_of}
 use Rattle.tables.specs.Files.{with_digit, is_within, digits_up_to, number_text, word_text, text_from, lines_text, write_text}
 use Rattle.tables.specs.Files.{after_minus, in_number, word_read, past_number, digit_step, other_step, step_of, at_start, scan_all}
 use Rattle.tables.specs.Files.{words_from, starts_with, lines, read_words, check_file}
-use Rattle.tables.proofs.Steps.{in_limits, digit_of_lem, after_digit, count_words, next_lt, loud}
+use Rattle.tables.proofs.Steps.{before_is, before_begins, in_limits, digit_of_lem, after_digit, count_words, next_lt, loud}
 
 pub scan_append : (f : Format) (s : Scan) (a b : List ℕ) → scan_all f s (a ++ b) ≡ scan_all f (scan_all f s a) b
 unfolding scan_all
@@ -36,25 +37,25 @@ words_append f s (x ∷ a) b = go (words_append f (step_of f s x) a b) (ltb s.co
     go ih true = ap (λ (l : List ℕ). word_read s ∷ l) ih
     go ih false = ih
 
-step_first : (f : Format) (s : Scan) (d : ℕ) → s.phase < 2 → d < 10 → step_of f s (digit_byte d) ≡ in_number s d
+step_first : (f : Format) (s : Scan) (d : ℕ) → may_begin s.phase ≡ true → d < 10 → step_of f s (digit_byte d) ≡ in_number s d
 unfolding step_of digit_step
-step_first f s d p h = rw (digit_of_lem d h, lt-ltb d 10 h, lt-ltb s.phase 2 p)
+step_first f s d p h = rw (digit_of_lem d h, lt-ltb d 10 h, p)
 
 step_more : (f : Format) (s : Scan) (v d : ℕ) → 0 < v → d < 10 → with_digit v d ≤ word_limit → step_of f (in_number s v) (digit_byte d) ≡ in_number s (with_digit v d)
 unfolding step_of digit_step
 step_more f s v d p h m = rw (digit_of_lem d h, lt-ltb d 10 h, lt-ltb 0 v p, le-leb (10 * v + d) word_limit m)
 
-step_after : (f : Format) (s : Scan) → s.phase ≡ 2 → in_limits f s ≡ true → step_of f s (byte_after f.columns s.column) ≡ past_number f s
+step_after : (f : Format) (s : Scan) → in_digits s.phase ≡ true → in_limits f s ≡ true → step_of f s (byte_after f.columns s.column.index) ≡ past_number f s
 unfolding step_of other_step
 step_after f s p w =
-    let b : ℕ = byte_after f.columns s.column in
-    rw (after_digit f.columns s.column, eq-eqb s.phase 2 p, eq-eqb b b refl, w)
+    let b : ℕ = byte_after f.columns s.column.index in
+    rw (after_digit f.columns s.column.index, p, eq-eqb b b refl, w)
 
-step_minus : (f : Format) (s : Scan) → s.phase ≡ 0 → step_of f s minus_byte ≡ after_minus s
+step_minus : (f : Format) (s : Scan) → is_before s.phase ≡ true → step_of f s minus_byte ≡ after_minus s
 unfolding step_of other_step digit_of
-step_minus f s p = rw p
+step_minus f s p = rw (before_is s.phase p)
 
-scan_digits : (f : Format) (s : Scan) (n w : ℕ) → s.phase < 2 → w < 10 ^ suc n → w ≤ word_limit → scan_all f s (digits_up_to (suc n) w) ≡ in_number s w
+scan_digits : (f : Format) (s : Scan) (n w : ℕ) → may_begin s.phase ≡ true → w < 10 ^ suc n → w ≤ word_limit → scan_all f s (digits_up_to (suc n) w) ≡ in_number s w
 unfolding scan_all digits_up_to
 scan_digits f s zero w p h m = rw (lt-ltb w 10 h) (step_first f s w p h)
 scan_digits f s (suc n) w p h m = go (scan_digits f s n (w / 10) p (let e : 10 ^ suc (suc n) ≡ 10 * 10 ^ suc n = pow-succ' 10 (suc n) in omega arith) (omega arith))
@@ -75,39 +76,37 @@ no_length (x ∷ l) e = absurd (omega arith)
 -- past the word w
 abbrev pub past_word : Format → Scan → ℕ → Scan
 past_word f s w = record {
-  phase = 0;
-  minus = false;
-  value = 0;
-  column = next_column f.columns s.column;
-  told = told_next f s.column w s.told;
-  line = cond (is_last f.columns s.column) (s.line + 1) s.line;
+  phase = BeforeNumber;
+  number = record { minus = false; value = 0 };
+  column = column_after f s.column w;
+  line = cond (is_last f.columns s.column.index) (s.line + 1) s.line;
   count = s.count + 1;
 }
 
 -- before a number
 pub record Ready (s : Scan) : Type 0 where
-  pub phase_is : s.phase ≡ 0
-  pub minus_is : s.minus ≡ false
+  pub phase_is : is_before s.phase ≡ true
+  pub minus_is : s.number.minus ≡ false
 
 -- the text of a word is read as that word
 record Reads (f : Format) (s : Scan) (w : ℕ) (t : List ℕ) : Type 0 where
   end : Scan
   scan : scan_all f s t ≡ end
   count : end.count ≡ s.count
-  past : step_of f end (byte_after f.columns s.column) ≡ past_word f s w
+  past : step_of f end (byte_after f.columns s.column.index) ≡ past_word f s w
   word : word_read end ≡ w
 
 module _ (f : Format) (s : Scan) (w : ℕ) (r : Ready s) (m : w ≤ word_limit) where
   abbrev signed : Bool
-  signed = may_sign f.columns s.column s.told
+  signed = may_sign f.columns s.column.index s.column.told
 
   reads_plain : (is_within signed false w ≡ true) → Reads f s w (number_text w)
   reads_plain e =
-      let q : (in_number s w).minus ≡ false = r.minus_is in
+      let q : (in_number s w).number.minus ≡ false = r.minus_is in
       let word : word_read (in_number s w) ≡ w = ap (λ (t : Bool). cond t (opposite w) w) q in
       record {
         end = in_number s w;
-        scan = scan_digits f s 9 w (omega (arith, r.phase_is)) (omega arith) m;
+        scan = scan_digits f s 9 w (before_begins s.phase r.phase_is) (omega arith) m;
         count = refl;
         past = step_after f (in_number s w) refl (ap (λ (t : Bool). is_within signed t w) q ∙ e) ∙ ap (past_word f s) word;
         word = word;
@@ -122,7 +121,7 @@ module _ (f : Format) (s : Scan) (w : ℕ) (r : Ready s) (m : w ≤ word_limit) 
       let fits : is_within signed true v ≡ true = rw (e, lt-ltb 0 v (omega arith), le-leb v (value_limit + 1) (omega arith)) in
       record {
         end = in_number (after_minus s) v;
-        scan = ap (λ (z : Scan). scan_all f z (number_text v)) (step_minus f s r.phase_is) ∙ scan_digits f (after_minus s) 9 v (omega arith) (omega arith) (omega arith);
+        scan = ap (λ (z : Scan). scan_all f z (number_text v)) (step_minus f s r.phase_is) ∙ scan_digits f (after_minus s) 9 v refl (omega arith) (omega arith);
         count = refl;
         past = step_after f (in_number (after_minus s) v) refl fits ∙ ap (past_word f s) word;
         word = word;
@@ -137,20 +136,20 @@ module _ (f : Format) (s : Scan) (w : ℕ) (r : Ready s) (m : w ≤ word_limit) 
       (λ e. rw e (reads_plain (rw e)))
 
   -- a word and the byte after it
-  pub word_scan : (bs : List ℕ) → scan_all f s (word_text signed w ++ (byte_after f.columns s.column ∷ bs)) ≡ scan_all f (past_word f s w) bs
+  pub word_scan : (bs : List ℕ) → scan_all f s (word_text signed w ++ (byte_after f.columns s.column.index ∷ bs)) ≡ scan_all f (past_word f s w) bs
   unfolding scan_all
   word_scan bs = let t = reads in
-      scan_append f s (word_text signed w) (byte_after f.columns s.column ∷ bs)
-      ∙ ap (λ (z : Scan). scan_all f (step_of f z (byte_after f.columns s.column)) bs) t.scan
+      scan_append f s (word_text signed w) (byte_after f.columns s.column.index ∷ bs)
+      ∙ ap (λ (z : Scan). scan_all f (step_of f z (byte_after f.columns s.column.index)) bs) t.scan
       ∙ ap (λ (z : Scan). scan_all f z bs) t.past
 
   none_yet : words_from f s (word_text signed w) ≡ []
   none_yet = let t = reads in
       no_length (words_from f s (word_text signed w)) (omega (arith, count_words f s (word_text signed w), ap (λ (z : Scan). z.count) t.scan, t.count))
 
-  word_words : (bs : List ℕ) → words_from f s (word_text signed w ++ (byte_after f.columns s.column ∷ bs)) ≡ w ∷ words_from f (past_word f s w) bs
+  word_words : (bs : List ℕ) → words_from f s (word_text signed w ++ (byte_after f.columns s.column.index ∷ bs)) ≡ w ∷ words_from f (past_word f s w) bs
   word_words bs = let t = reads in
-      let b : ℕ = byte_after f.columns s.column in
+      let b : ℕ = byte_after f.columns s.column.index in
       words_append f s (word_text signed w) (b ∷ bs)
       ∙ ap (λ (l : List ℕ). l ++ words_from f (scan_all f s (word_text signed w)) (b ∷ bs)) none_yet
       ∙ ap (λ (z : Scan). words_from f z (b ∷ bs)) t.scan
@@ -163,28 +162,28 @@ next_mod k c h = either (is_last k c)
     (λ e. let q : (c + 1 ≡ k → ⊥) = eqb-false (c + 1) k e in let l : c + 1 < k = omega arith in rw e (sym (mod-eq_of_lt l)))
 
 record Returned (f : Format) (s : Scan) (ws : List ℕ) : Type 0 where
-  words_are : words_from f s (text_from f s.column s.told ws) ≡ ws
-  phase_is : (scan_all f s (text_from f s.column s.told ws)).phase ≡ 0
-  column_is : (scan_all f s (text_from f s.column s.told ws)).column ≡ (s.column + length ws) % f.columns
+  words_are : words_from f s (text_from f s.column.index s.column.told ws) ≡ ws
+  phase_is : is_before (scan_all f s (text_from f s.column.index s.column.told ws)).phase ≡ true
+  column_is : (scan_all f s (text_from f s.column.index s.column.told ws)).column.index ≡ (s.column.index + length ws) % f.columns
 
-returned : (f : Format) (s : Scan) (ws : List ℕ) → Ready s → s.column < f.columns → AllWords ws → Returned f s ws
+returned : (f : Format) (s : Scan) (ws : List ℕ) → Ready s → s.column.index < f.columns → AllWords ws → Returned f s ws
 unfolding text_from scan_all words_from
 returned f s [] p c h = record { words_are = refl; phase_is = p.phase_is; column_is = sym (ap (λ (n : ℕ). n % f.columns) (omega arith) ∙ mod-eq_of_lt c) }
-returned f s (w ∷ ws) p c h = go (returned f r ws (record { phase_is = refl; minus_is = refl }) (next_lt f.columns s.column c) (λ i. h (suc i)))
+returned f s (w ∷ ws) p c h = go (returned f r ws (record { phase_is = refl; minus_is = refl }) (next_lt f.columns s.column.index c) (λ i. h (suc i)))
   where
     r : Scan
     r = past_word f s w
 
     go : Returned f r ws → Returned f s (w ∷ ws)
     go t =
-        let u : List ℕ = text_from f r.column r.told ws in
-        let e : scan_all f s (text_from f s.column s.told (w ∷ ws)) ≡ scan_all f (past_word f s w) u = word_scan f s w p (h 0) u in
+        let u : List ℕ = text_from f r.column.index r.column.told ws in
+        let e : scan_all f s (text_from f s.column.index s.column.told (w ∷ ws)) ≡ scan_all f (past_word f s w) u = word_scan f s w p (h 0) u in
         record {
           words_are = word_words f s w p (h 0) u ∙ ap (λ (l : List ℕ). w ∷ l) t.words_are;
-          phase_is = ap (λ (z : Scan). z.phase) e ∙ t.phase_is;
-          column_is = ap (λ (z : Scan). z.column) e ∙ t.column_is
-              ∙ ap (λ (x : ℕ). (x + length ws) % f.columns) (next_mod f.columns s.column c)
-              ∙ mod-add-mod (s.column + 1) f.columns (length ws) ∙ ap (λ (x : ℕ). x % f.columns) (omega arith);
+          phase_is = ap (λ (z : Scan). is_before z.phase) e ∙ t.phase_is;
+          column_is = ap (λ (z : Scan). z.column.index) e ∙ t.column_is
+              ∙ ap (λ (x : ℕ). (x + length ws) % f.columns) (next_mod f.columns s.column.index c)
+              ∙ mod-add-mod (s.column.index + 1) f.columns (length ws) ∙ ap (λ (x : ℕ). x % f.columns) (omega arith);
         }
 
 starts_own : (names bs : List ℕ) → starts_with names (names ++ bs) ≡ true
@@ -207,5 +206,5 @@ module _ (names : List ℕ) (f : Format) (ws : List ℕ) (pos : 0 < f.columns) (
   pub write_passes : whole f.columns ws ≡ true → is_done (check_file names f (write_text names f ws)) ≡ true
   unfolding write_text check_file
   write_passes w =
-      let col : (scan_all f at_start (lines_text f ws)).column ≡ 0 = t.column_is ∙ ap (λ (n : ℕ). n % f.columns) (omega arith) ∙ eqb-true (length ws % f.columns) 0 w in
-      rw (body, starts_own names (lines_text f ws), eq-eqb _ 0 t.phase_is, eq-eqb _ 0 col)
+      let col : (scan_all f at_start (lines_text f ws)).column.index ≡ 0 = t.column_is ∙ ap (λ (n : ℕ). n % f.columns) (omega arith) ∙ eqb-true (length ws % f.columns) 0 w in
+      rw (body, starts_own names (lines_text f ws), t.phase_is, eq-eqb _ 0 col)

@@ -1,16 +1,13 @@
 -- The loops that read a file: their invariants, and how a turn keeps them. Assumes nothing.
 use Prim.Native.Nat.{ℕ, ◌+◌, ◌≤◌, ◌<◌}
 use mathlib.Core.Path.{◌≡◌, refl, sym, ◌∙◌}
-use mathlib.Core.Bool.{true, false, ◌&&◌}
 use mathlib.Core.List.{List}
 use native.Mathlib.Numerals.{add-one}
 use native.Mathlib.Omega.{arith}
 use lib.ListN.{length, get_or, drop, drop_of_length-le}
 use lib.Seq.{drop-cons}
-use lib.Dec.{eqb}
-use borrow.Author.Tests.{eq-eqb, ne_eqb}
 use Rattle.tables.specs.declared.reading.Scan.{Scan}
-use Rattle.tables.specs.Files.{Format, step_of, scan_all, at_start, starts_with}
+use Rattle.tables.specs.Files.{Format, step_of, scan_all, at_start}
 use Rattle.tables.specs.Scans.{Sound}
 use Rattle.tables.proofs.Steps.{step_counted, step_sound}
 
@@ -40,31 +37,3 @@ module _ (f : Format) (bs : List ℕ) where
   pub scan_end : (s : Scan) (i : ℕ) → Scanning f bs s i → length bs ≤ i → s ≡ scan_all f at_start bs
   unfolding scan_all
   scan_end s i t h = sym (t.rest ∙ rw (drop_of_length-le bs h))
-
--- the line of names, compared byte by byte
-pub record Comparing (names file : List ℕ) (i : ℕ) : Type 0 where
-  pub within : i ≤ length names
-  pub rest : starts_with names file ≡ starts_with (drop i names) (drop i file)
-
-module _ (names file : List ℕ) where
-  pub compare_begin : Comparing names file 0
-  compare_begin = record { within = omega arith; rest = refl }
-
-  pub compare_short : (i : ℕ) → Comparing names file i → i < length names → length file ≤ i → false ≡ starts_with names file
-  unfolding starts_with
-  compare_short i t p q = sym (t.rest ∙ rw (drop-cons names i 0 p, drop_of_length-le file q))
-
-  split : (i : ℕ) → Comparing names file i → i < length names → i < length file
-      → starts_with names file ≡ (eqb (get_or names i 0) (get_or file i 0) && starts_with (drop (i + 1) names) (drop (i + 1) file))
-  unfolding starts_with
-  split i t p q = t.rest ∙ rw (add-one, drop-cons names i 0 p, drop-cons file i 0 q)
-
-  pub compare_differs : (i : ℕ) → Comparing names file i → i < length names → i < length file → (get_or names i 0 ≡ get_or file i 0 → ⊥) → false ≡ starts_with names file
-  compare_differs i t p q e = sym (split i t p q ∙ simp (ne_eqb _ _ e))
-
-  pub compare_more : (i : ℕ) → Comparing names file i → i < length names → i < length file → get_or names i 0 ≡ get_or file i 0 → Comparing names file (i + 1)
-  compare_more i t p q e = record { within = omega arith; rest = split i t p q ∙ simp (eq-eqb _ _ e) }
-
-  pub compare_end : (i : ℕ) → Comparing names file i → length names ≤ i → true ≡ starts_with names file
-  unfolding starts_with
-  compare_end i t p = sym (t.rest ∙ rw (drop_of_length-le names p))

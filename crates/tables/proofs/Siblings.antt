@@ -3,6 +3,7 @@ use Prim.Native.Nat.{ℕ, ◌<◌}
 use mathlib.Core.Path.{◌≡◌, refl, ap, ◌∙◌}
 use mathlib.Core.Bool.{Bool, true, false, cond, ◌&&◌, ◌||◌}
 use mathlib.Core.List.{List}
+use native.Mathlib.Omega.{arith}
 use lib.Dec.{eqb}
 use borrow.Author.Tests.{eqb-true, eq-eqb, ne_eqb}
 use Rattle.base.specs.Search.{some}
@@ -11,11 +12,10 @@ use Rattle.tables.specs.Words.{row_at}
 use Rattle.tables.specs.Tables.{root, is_twin, has_twin}
 use Rattle.tables.specs.declared.Row.{Row}
 use Rattle.tables.specs.Links.{hashes, hash_of, twin_hash}
-use Rattle.tables.proofs.Linked.{hash_below}
 
 pub twin_below : (r : Row) → twin_hash r < hashes
-unfolding twin_hash
-twin_below r = hash_below _ _ _ _
+unfolding twin_hash hash_of
+twin_below r = omega arith
 
 pub same_hash : (r b : Row) → is_twin r b ≡ true → twin_hash b ≡ twin_hash r
 unfolding twin_hash

@@ -5,8 +5,8 @@ use mathlib.Core.Bool.{true}
 use mathlib.Core.List.{List}
 use native.Mathlib.Omega.{arith}
 use lib.ListN.{length}
-use Rattle.tables.specs.declared.Answer.{Answer}
-use Rattle.tables.specs.declared.Answer.TheVariants.{Done}
+use Rattle.tables.specs.Answers.{Answer}
+use Rattle.tables.specs.Answers.{Done}
 use Rattle.tables.specs.Answers.{is_done, in_order}
 use Rattle.tables.specs.Words.{whole, entry_words, entry_count, row_words, row_count}
 use Rattle.tables.specs.Rules.{to_constant, entry_fault, rule_length, rule_checks, check_entries, check_rule}
@@ -18,6 +18,7 @@ use Rattle.tables.proofs.Whole.{rule_whole, table_whole}
 use Rattle.tables.proofs.Calls.{read_accepted, read_table, write_accepted, write_file}
 use Rattle.tables.proofs.WriteBack.{write_read}
 use Rattle.tables.proofs.ReadBack.{read_write, write_passes}
+use Rattle.tables.specs.declared.refusals.Fault.TheVariants.{RuleLength, TableLength}
 
 module _ (names : List ℕ) (f : Format) (check : List ℕ → Answer) where
   pub tables_return : 0 < f.columns → ((ws : List ℕ) → is_done (check ws) ≡ true → whole f.columns ws ≡ true) → TablesReturn names f check
@@ -47,11 +48,11 @@ module _ (names : List ℕ) (f : Format) (check : List ℕ → Answer) where
 
 rule_lines : (r : List ℕ) → is_done (check_rule r) ≡ true → whole entry_words r ≡ true
 unfolding check_entries
-rule_lines r ok = rule_whole r (unless_ok (rule_length r) 1 (in_order (entry_fault to_constant r) (entry_count r) rule_checks) ok)
+rule_lines r ok = rule_whole r (unless_ok (rule_length r) RuleLength (in_order (entry_fault to_constant r) (entry_count r) rule_checks) ok)
 
 table_lines : (t : List ℕ) → is_done (check_table t) ≡ true → whole row_words t ≡ true
 unfolding check_table
-table_lines t ok = table_whole t (unless_ok (table_length t) 8 (in_order (row_fault t) (row_count t) table_checks) ok)
+table_lines t ok = table_whole t (unless_ok (table_length t) TableLength (in_order (row_fault t) (row_count t) table_checks) ok)
 
 pub round_trips : RoundTrips
 round_trips = record {

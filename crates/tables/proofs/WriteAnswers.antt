@@ -1,38 +1,34 @@
 -- The answers of writing a file, each from the tests that lead to it. Assumes nothing.
 use Prim.Native.Nat.{ℕ, ◌+◌, ◌≤◌, ◌<◌}
 use mathlib.Core.Path.{◌≡◌, sym, ap, ◌∙◌}
-use mathlib.Core.Bool.{Bool, true, false, not}
+use mathlib.Core.Bool.{true, false}
 use mathlib.Core.List.{List, ◌++◌}
 use native.Mathlib.Omega.{arith}
 use lib.ListN.{length, drop, length-append}
 use lib.Seq.{sets, sets-eq}
 use lib.Dec.{leb}
-use borrow.Author.Tests.{le-leb, lt-leb, leb-true, leb-false, not-true, not-false}
+use borrow.Author.Tests.{le-leb, lt-leb}
 use Rattle.base.proofs.Copies.{sets_append}
-use Rattle.tables.specs.declared.Answer.{Answer}
-use Rattle.tables.specs.declared.Answer.TheVariants.{Done, Refused}
+use Rattle.tables.specs.Answers.{Answer}
+use Rattle.tables.specs.Answers.{Done, Refused}
 use Rattle.tables.specs.Files.{Format, lines_text, write_text, write_answer, write_out}
-
--- what the test of the room says
-pub too_long : (f : Format) (ws : List ℕ) (room : ℕ) (r : Bool) → r ≡ leb (length (lines_text f ws)) room → not r ≡ true → room < length (lines_text f ws)
-too_long f ws room r e t = leb-false (length (lines_text f ws)) room (sym e ∙ not-true r t)
-
-pub not_too_long : (f : Format) (ws : List ℕ) (room : ℕ) (r : Bool) → r ≡ leb (length (lines_text f ws)) room → not r ≡ false → length (lines_text f ws) ≤ room
-not_too_long f ws room r e t = leb-true (length (lines_text f ws)) room (sym e ∙ not-false r t)
+use Rattle.tables.specs.declared.refusals.Fault.TheVariants.{ShortOutput}
+use Rattle.std.specs.Prelude.{Err}
+use Rattle.tables.specs.declared.refusals.Refusal.{Refusal}
 
 abbrev pub Wrote : List ℕ → Format → Answer → List ℕ → List ℕ → Answer → List ℕ → Type 0
 Wrote names f checked ws out r out' = (r ≡ write_answer names f checked ws (length out)) × (out' ≡ write_out names f checked ws out)
 
 module _ (names : List ℕ) (f : Format) (checked : Answer) (ws out : List ℕ) where
-  pub refuse : (n p : ℕ) → checked ≡ Refused n p → Wrote names f checked ws out (Refused n p) out
+  pub refuse : (r : Refusal) → checked ≡ Err r → Wrote names f checked ws out (Err r) out
   unfolding write_answer write_out
-  refuse n p e = (rw e, rw e)
+  refuse r e = (rw e, rw e)
 
   write_size : length (write_text names f ws) ≡ length names + length (lines_text f ws)
   unfolding write_text
   write_size = length-append names (lines_text f ws)
 
-  pub short : (m : ℕ) → checked ≡ Done m → length out < length names + length (lines_text f ws) → Wrote names f checked ws out (Refused 17 0) out
+  pub short : (m : ℕ) → checked ≡ Done m → length out < length names + length (lines_text f ws) → Wrote names f checked ws out (Refused ShortOutput 0) out
   unfolding write_answer write_out
   short m e h =
       let fits : leb (length (write_text names f ws)) (length out) ≡ false = lt-leb (length (write_text names f ws)) (length out) (omega (arith, write_size)) in

@@ -7,11 +7,15 @@ use Rattle.tables.specs.Words.{word_limit, entry_words, row_words}
 use Rattle.tables.specs.Values.{value_limit, is_below_zero, opposite}
 use Rattle.tables.specs.Rules.{comparison_kind, to_constant, check_rule}
 use Rattle.tables.specs.Tables.{check_table}
-use Rattle.tables.specs.declared.Answer.{Answer}
-use Rattle.tables.specs.declared.Answer.TheVariants.{Done, Refused}
+use Rattle.tables.specs.Answers.{Answer}
+use Rattle.tables.specs.Answers.{Done, Refused}
 use Rattle.tables.specs.declared.columns.Signs.{Signs}
 use Rattle.tables.specs.declared.columns.Signs.TheVariants.{Nowhere, Values, Constants}
+use Rattle.tables.specs.declared.columns.Column.{Column}
+use Rattle.tables.specs.declared.reading.Phase.{Phase}
+use Rattle.tables.specs.declared.reading.Phase.TheVariants.{BeforeNumber, AfterMinus, InDigits, AtFault}
 use Rattle.tables.specs.declared.reading.Scan.{Scan}
+use Rattle.tables.specs.declared.refusals.Fault.TheVariants.{FirstLine, Line}
 
 -- ---- the line of names, with its byte 10
 -- kind a b c
@@ -62,6 +66,10 @@ next_column k c = cond (is_last k c) 0 (c + 1)
 -- what the next number is told; each line starts anew
 abbrev pub told_next : Format → ℕ → ℕ → Bool → Bool
 told_next f c w told = cond (is_last f.columns c) false (f.tells c w told)
+
+-- the next number's column, and what that is told
+abbrev pub column_after : Format → Column → ℕ → Column
+column_after f c w = record { index = next_column f.columns c.index; told = told_next f c.index w c.told }
 
 -- the number in column c may have a sign
 abbrev pub may_sign : ℕ → ℕ → Bool → Bool
@@ -126,47 +134,65 @@ lines_text f ws = text_from f 0 false ws
 unfoldable pub write_text : List ℕ → Format → List ℕ → List ℕ
 write_text names f ws = names ++ lines_text f ws
 
--- ---- reading the lines of values, byte by byte. A state has its phase (0 before a number, 1 after its minus sign, 2 in its digits, 3 at
--- fault), whether the number has a minus sign, its value so far without that, its column and what it is told, its line, and how many numbers
--- have ended.
+-- ---- reading the lines of values, byte by byte. A state has its phase, the number (whether it has a minus sign, and its value so far
+-- without that), its column and what that is told, its line, and how many numbers have ended.
 abbrev pub after_minus : Scan → Scan
-after_minus s = record { phase = 1; minus = true; value = s.value; column = s.column; told = s.told; line = s.line; count = s.count }
+after_minus s = record { phase = AfterMinus; number = record { minus = true; value = s.number.value }; column = s.column; line = s.line; count = s.count }
 
 abbrev pub in_number : Scan → ℕ → Scan
-in_number s v = record { phase = 2; minus = s.minus; value = v; column = s.column; told = s.told; line = s.line; count = s.count }
+in_number s v = record { phase = InDigits; number = record { minus = s.number.minus; value = v }; column = s.column; line = s.line; count = s.count }
 
 abbrev pub at_fault : Scan → Scan
-at_fault s = record { phase = 3; minus = s.minus; value = s.value; column = s.column; told = s.told; line = s.line; count = s.count }
+at_fault s = record { phase = AtFault; number = s.number; column = s.column; line = s.line; count = s.count }
 
 -- the word of the number read
 abbrev pub word_read : Scan → ℕ
-word_read s = word_of s.minus s.value
+word_read s = word_of s.number.minus s.number.value
 
 -- past a number, before the next one
 abbrev pub past_number : Format → Scan → Scan
 past_number f s = record {
-  phase = 0;
-  minus = false;
-  value = 0;
-  column = next_column f.columns s.column;
-  told = told_next f s.column (word_read s) s.told;
-  line = cond (is_last f.columns s.column) (s.line + 1) s.line;
+  phase = BeforeNumber;
+  number = record { minus = false; value = 0 };
+  column = column_after f s.column (word_read s);
+  line = cond (is_last f.columns s.column.index) (s.line + 1) s.line;
   count = s.count + 1;
 }
+
+-- before a number; before its first digit; behind a digit
+abbrev pub is_before : Phase → Bool
+is_before BeforeNumber = true
+is_before AfterMinus = false
+is_before InDigits = false
+is_before AtFault = false
+
+abbrev pub may_begin : Phase → Bool
+may_begin BeforeNumber = true
+may_begin AfterMinus = true
+may_begin InDigits = false
+may_begin AtFault = false
+
+abbrev pub in_digits : Phase → Bool
+in_digits BeforeNumber = false
+in_digits AfterMinus = false
+in_digits InDigits = true
+in_digits AtFault = false
 
 -- a digit begins a number, or stands after its digits if it may
 unfoldable pub digit_step : Scan → ℕ → Scan
 digit_step s d =
-    cond (ltb s.phase 2) (in_number s d)
-    (cond (eqb s.phase 2 && may_grow s.value d) (in_number s (with_digit s.value d)) (at_fault s))
+    cond (may_begin s.phase) (in_number s d)
+    (cond (in_digits s.phase && may_grow s.number.value d) (in_number s (with_digit s.number.value d)) (at_fault s))
 
 -- the byte b ends the number: it is the one after its column, and the number is within its limits
 abbrev pub may_end : ℕ → Scan → ℕ → Bool
-may_end k s b = eqb s.phase 2 && eqb b (byte_after k s.column) && is_within (may_sign k s.column s.told) s.minus s.value
+may_end k s b =
+    in_digits s.phase && eqb b (byte_after k s.column.index)
+    && is_within (may_sign k s.column.index s.column.told) s.number.minus s.number.value
 
 -- any other byte ends a number, or is the minus sign before its first digit
 unfoldable pub other_step : Format → Scan → ℕ → Scan
-other_step f s b = cond (may_end f.columns s b) (past_number f s) (cond (eqb s.phase 0 && eqb b minus_byte) (after_minus s) (at_fault s))
+other_step f s b = cond (may_end f.columns s b) (past_number f s) (cond (is_before s.phase && eqb b minus_byte) (after_minus s) (at_fault s))
 
 -- the state after a byte
 unfoldable pub step_of : Format → Scan → ℕ → Scan
@@ -174,7 +200,13 @@ step_of f s b = cond (ltb (digit_of b) 10) (digit_step s (digit_of b)) (other_st
 
 -- the first line of values is line 2
 abbrev pub at_start : Scan
-at_start = record { phase = 0; minus = false; value = 0; column = 0; told = false; line = 2; count = 0 }
+at_start = record {
+  phase = BeforeNumber;
+  number = record { minus = false; value = 0 };
+  column = record { index = 0; told = false };
+  line = 2;
+  count = 0;
+}
 
 -- the state after some bytes
 unfoldable pub scan_all : Format → Scan → List ℕ → Scan
@@ -189,7 +221,7 @@ words_from f s (b ∷ bs) =
 
 -- every line is ended
 abbrev pub at_line : Scan → Bool
-at_line s = eqb s.phase 0 && eqb s.column 0
+at_line s = is_before s.phase && eqb s.column.index 0
 
 -- ---- a file
 -- the bytes start with the line of names
@@ -214,8 +246,8 @@ read_words names f file = words_from f at_start (lines names file)
 unfoldable pub check_file : List ℕ → Format → List ℕ → Answer
 check_file names f file =
     cond (starts_with names file)
-    (cond (at_line (at_end names f file)) (Done (length (read_words names f file))) (Refused 19 (at_end names f file).line))
-    (Refused 18 1)
+    (cond (at_line (at_end names f file)) (Done (length (read_words names f file))) (Refused Line (at_end names f file).line))
+    (Refused FirstLine 1)
 
 -- ---- the calls
 -- reading a file into a buffer of that many words: 18, 19, 17

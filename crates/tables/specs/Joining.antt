@@ -3,8 +3,9 @@ use Rattle.std.specs.Prelude.{ℕ, ◌-◌, ◌≡◌, Bool, true, ◌||◌, Lis
 use Rattle.tables.specs.Answers.{is_done, and_then, unless, unless_any, output}
 use Rattle.tables.specs.Words.{row_at, row_count}
 use Rattle.tables.specs.Tables.{row_fault, table_length, check_table, accepted_table}
-use Rattle.tables.specs.declared.Answer.{Answer}
-use Rattle.tables.specs.declared.Answer.TheVariants.{Done}
+use Rattle.tables.specs.Answers.{Answer}
+use Rattle.tables.specs.Answers.{Done}
+use Rattle.tables.specs.declared.refusals.Fault.TheVariants.{TableLength, Sibling, Join, ShortOutput}
 
 -- the second table's first device is above the first one's last; an empty side always fits
 abbrev pub follows : List ℕ → List ℕ → Bool
@@ -16,16 +17,16 @@ follows s t =
 unfoldable pub join_tables : List ℕ → List ℕ → ℕ → Answer
 join_tables s t room =
     and_then (check_table s) (and_then (check_table t)
-    (unless (follows s t) 16
-    (unless (table_length (s ++ t)) 8
-    (unless_any (row_fault (s ++ t) 12) 12 (row_count (s ++ t))
-    (unless (leb (length (s ++ t)) room) 17
+    (unless (follows s t) Join
+    (unless (table_length (s ++ t)) TableLength
+    (unless_any (row_fault (s ++ t) Sibling) Sibling (row_count (s ++ t))
+    (unless (leb (length (s ++ t)) room) ShortOutput
     (Done (length (s ++ t))))))))
 
 -- joining in place: the first table is the first `used` words of the pool. A request with more words in use than the
 -- pool has is 8, place 0.
 unfoldable pub join_answer : List ℕ → ℕ → List ℕ → Answer
-join_answer pool used t = unless (leb used (length pool)) 8 (join_tables (take used pool) t (length pool))
+join_answer pool used t = unless (leb used (length pool)) TableLength (join_tables (take used pool) t (length pool))
 
 -- the pool after it: the joined table and what stood past it, or as it was
 unfoldable pub join_pool : List ℕ → ℕ → List ℕ → List ℕ

@@ -1,3 +1,4 @@
+pub mod Refusals
 pub mod Answers
 pub mod Words
 pub mod Values
@@ -11,3 +12,4 @@ pub mod Files
 pub mod Scans
 pub mod Trips
 pub mod Lines
+pub mod Nodes

@@ -6,8 +6,9 @@ use Rattle.tables.specs.Rules.{comparison_kind}
 use Rattle.tables.specs.Files.{Format, format, is_last, may_sign, digit_byte, minus_byte, with_digit, starts_with, lines, read_words, check_file}
 use Rattle.tables.specs.Files.{rule_format, pool_format}
 use Rattle.tables.specs.declared.columns.Signs.TheVariants.{Nowhere}
-use Rattle.tables.specs.declared.Answer.{Answer}
-use Rattle.tables.specs.declared.Answer.TheVariants.{Done, Refused}
+use Rattle.tables.specs.Answers.{Answer}
+use Rattle.tables.specs.Answers.{Done, Refused}
+use Rattle.tables.specs.declared.refusals.Fault.TheVariants.{Line}
 
 -- the bytes are the decimal digits of a number: none may stand after a 0 that begins it
 pub data Decimal : List ℕ → ℕ → Type 0 where
@@ -72,7 +73,7 @@ line_at ls i = get_or ls i []
 pub data ByLines (f : Format) (ls : List (List ℕ)) (words : List ℕ) : Answer → Type 0 where
   every_line : AllLines f ls words → ByLines f ls words (Done (length words))
   first_other : (i : ℕ) → i < length ls → ((j : ℕ) → j < i → IsLine f (line_at ls j)) → (IsLine f (line_at ls i) → ⊥)
-      → ByLines f ls words (Refused 19 (i + 2))
+      → ByLines f ls words (Refused Line (i + 2))
 
 -- the claim, for every file that passes 18
 abbrev pub FilesByLines : Type 0

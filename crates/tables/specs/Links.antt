@@ -1,13 +1,14 @@
 -- Private contracts of the checks of rows: rows with one hash are linked, each to the last one before it. Assumes nothing.
-use Rattle.std.specs.Prelude.{ℕ, zero, suc, ◌+◌, ◌*◌, ◌/◌, ◌%◌, ◌<◌, ◌≤◌, ◌≡◌, Bool, cond, not, ◌&&◌, ◌||◌, List, length, get_or, eqb}
-use Rattle.base.specs.Search.{first}
+use Rattle.std.specs.Prelude.{ℕ, zero, suc, ◌+◌, ◌*◌, ◌/◌, ◌%◌, ◌<◌, ◌≤◌, ◌≡◌, Bool, cond, not, ◌&&◌, ◌||◌, List, length, get_or, eqb, Option, Some, None, Result}
+use Rattle.base.specs.Search.{some, found}
 use Rattle.tables.specs.Words.{row_at}
-use Rattle.tables.specs.Tables.{row_limit, root, is_parent, is_deeper, out_of_range, not_above, no_parent, wrong_depth}
+use Rattle.tables.specs.Tables.{row_limit, root, is_parent, is_deeper, no_parent, wrong_depth}
+use Rattle.tables.specs.Refusals.{refusal_at}
 use Rattle.tables.specs.declared.Row.{Row}
-
--- the faults that a row alone or with the row before it shows: 9 and 10
-unfoldable pub plain_fault : ℕ → List ℕ → ℕ → Bool
-plain_fault k t i = cond (eqb k 9) (out_of_range (row_at t i)) (not_above t i)
+use Rattle.tables.specs.declared.refusals.Fault.{Fault}
+use Rattle.tables.specs.declared.refusals.Fault.TheVariants.{Parent, Depth}
+use Rattle.tables.specs.declared.refusals.Refusal.{Refusal}
+use Rattle.tables.specs.declared.links.Chains.{Chains}
 
 -- ---- links
 -- one more than the last number below n at which p holds, 0 where there is none
@@ -34,6 +35,11 @@ pub record Heads (hash : ℕ → ℕ) (head : List ℕ) (i : ℕ) : Type 0 where
   pub long : length head ≡ hashes
   pub lasts : (h : ℕ) → h < hashes → get_or head h 0 ≡ last_of (λ m. eqb (hash m) h) i
 
+-- the rows linked are linked by their hashes
+pub record Chained (hash : ℕ → ℕ) (c : Chains) : Type 0 where
+  pub heads : Heads hash c.head c.rows
+  pub linked : Linked hash c.next c.rows
+
 -- ---- parents: the hash of a row's place, and of its parent's
 unfoldable pub place_hash : ℕ → ℕ → ℕ
 place_hash d a = hash_of d a 0 0
@@ -45,18 +51,14 @@ places_at t i = place_hash (row_at t i).device (row_at t i).at
 unfoldable pub fits_parent : Bool → Row → Row → Bool
 fits_parent deeper r p = is_parent r p && (not deeper || is_deeper r p)
 
--- the number of the fault of row i, 11 before 26; 0 for none
-unfoldable pub parent_number : List ℕ → ℕ → ℕ
-parent_number t i = cond (wrong_depth t i) (cond (no_parent t i) 11 26) 0
+-- the fault of row i among 11 and 26: 11 before 26
+unfoldable pub parent_fault : List ℕ → ℕ → Option Fault
+parent_fault t i = cond (wrong_depth t i) (Some (cond (no_parent t i) Parent Depth)) None
 
--- a first place that is noted, where n is none so far
-unfoldable pub noted_of : ℕ → ℕ → ℕ → Bool → ℕ
-noted_of place n i fault = cond (fault && eqb place n) i place
-
--- the first row with fault 11; where there is none, also the first with fault 26
-pub record FirstFaults (t : List ℕ) (n parent depth : ℕ) : Type 0 where
-  pub parent_is : parent ≡ first (no_parent t) n
-  pub depth_is : n ≤ parent → depth ≡ first (wrong_depth t) n
+-- the first row with fault 11; where there is none, the first with fault 26
+abbrev pub check_parents : List ℕ → ℕ → Result (Unit {0}) Refusal
+check_parents t n =
+    cond (some (no_parent t) n) (refusal_at Parent (found (no_parent t) n)) (refusal_at Depth (found (wrong_depth t) n))
 
 -- ---- siblings: a hash that equal ones share; for roots the device does not count
 unfoldable pub twin_hash : Row → ℕ

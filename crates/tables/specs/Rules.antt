@@ -1,10 +1,11 @@
 -- 01, the refusals of a rule: 1 to 7; 02, wish 5, of a template, where 3 lets b of a comparison be 2, too. Assumes nothing.
 use Rattle.std.specs.Prelude.{ℕ, zero, suc, ◌+◌, Bool, true, false, cond, not, ◌&&◌, ◌||◌, List, [], ◌∷◌, ltb, leb, eqb}
 use Rattle.base.specs.Search.{sum_below}
-use Rattle.tables.specs.Answers.{unless, in_order, is_done}
+use Rattle.tables.specs.Answers.{Answer, unless, in_order, is_done}
 use Rattle.tables.specs.Words.{whole, not_identifier, entry_words, entry_at, entry_count}
 use Rattle.tables.specs.declared.Entry.{Entry}
-use Rattle.tables.specs.declared.Answer.{Answer}
+use Rattle.tables.specs.declared.refusals.Fault.{Fault}
+use Rattle.tables.specs.declared.refusals.Fault.TheVariants.{RuleLength, Kind, Word, Child, Naming, Nesting, Unbound}
 
 -- how many quantifiers may stand around one another
 abbrev pub nesting_limit : ℕ
@@ -101,15 +102,14 @@ unbound d e =
     (is_quantifier e && ltb d e.b)
     || (is_comparison e && (leb d e.a || (eqb e.b 0 && leb d e.c)))
 
--- entry i has the fault of that number
-unfoldable pub entry_fault : ℕ → List ℕ → ℕ → ℕ → Bool
-entry_fault most r k i =
-    cond (eqb k 2) (unknown_kind (entry_at r i))
-    (cond (eqb k 3) (bad_word most (entry_at r i))
-    (cond (eqb k 4) (bad_child (entry_count r) i (entry_at r i))
-    (cond (eqb k 5) (bad_naming r i)
-    (cond (eqb k 6) (too_deep r i)
-    (unbound (around r i) (entry_at r i))))))
+-- entry i has that fault
+unfoldable pub entry_fault : ℕ → List ℕ → Fault → ℕ → Bool
+entry_fault most r Kind i = unknown_kind (entry_at r i)
+entry_fault most r Word i = bad_word most (entry_at r i)
+entry_fault most r Child i = bad_child (entry_count r) i (entry_at r i)
+entry_fault most r Naming i = bad_naming r i
+entry_fault most r Nesting i = too_deep r i
+entry_fault most r k i = unbound (around r i) (entry_at r i)
 
 -- a rule has 1 to 128 entries
 abbrev pub entry_limit : ℕ
@@ -120,12 +120,12 @@ abbrev pub rule_length : List ℕ → Bool
 rule_length r = whole entry_words r && (leb 1 (entry_count r) && leb (entry_count r) entry_limit)
 
 -- the checks of entries, in the order in which they are made
-abbrev pub rule_checks : List ℕ
-rule_checks = 2 ∷ 3 ∷ 4 ∷ 5 ∷ 6 ∷ 7 ∷ []
+abbrev pub rule_checks : List Fault
+rule_checks = Kind ∷ Word ∷ Child ∷ Naming ∷ Nesting ∷ Unbound ∷ []
 
 -- the answer of 1 to 7, where b of a comparison is at most `most`: the number of entries, or the first refusal
 unfoldable pub check_entries : ℕ → List ℕ → Answer
-check_entries most r = unless (rule_length r) 1 (in_order (entry_fault most r) (entry_count r) rule_checks)
+check_entries most r = unless (rule_length r) RuleLength (in_order (entry_fault most r) (entry_count r) rule_checks)
 
 -- the checks of a rule, and of a template (02, wish 5)
 abbrev pub check_rule : List ℕ → Answer

@@ -1,11 +1,11 @@
 -- 01, the refusals of a table: 8 to 12, with 26 between 11 and 12, wherever they are named. Assumes nothing.
-use Rattle.std.specs.Prelude.{ℕ, ◌+◌, ◌-◌, Bool, cond, not, ◌&&◌, ◌||◌, List, [], ◌∷◌, ltb, leb, eqb}
-use Rattle.base.specs.Lists.{select}
+use Rattle.std.specs.Prelude.{ℕ, ◌+◌, ◌-◌, Bool, cond, not, ◌&&◌, ◌||◌, List, [], ◌∷◌, ◌++◌, ltb, leb, eqb}
 use Rattle.base.specs.Search.{some}
-use Rattle.tables.specs.Answers.{unless, in_order, is_done}
+use Rattle.tables.specs.Answers.{Answer, unless, in_order, is_done}
 use Rattle.tables.specs.Words.{whole, not_identifier, row_words, row_at, row_count}
 use Rattle.tables.specs.declared.Row.{Row}
-use Rattle.tables.specs.declared.Answer.{Answer}
+use Rattle.tables.specs.declared.refusals.Fault.{Fault}
+use Rattle.tables.specs.declared.refusals.Fault.TheVariants.{TableLength, Range, Order, Parent, Sibling, Depth}
 
 -- a root has no parent
 abbrev pub root : Row → Bool
@@ -54,14 +54,13 @@ wrong_depth t i =
 abbrev pub has_twin : List ℕ → ℕ → Bool
 has_twin t i = some (λ j. is_twin (row_at t i) (row_at t j)) i
 
--- row i has the fault of that number
-unfoldable pub row_fault : List ℕ → ℕ → ℕ → Bool
-row_fault t k i =
-    cond (eqb k 9) (out_of_range (row_at t i))
-    (cond (eqb k 10) (not_above t i)
-    (cond (eqb k 11) (no_parent t i)
-    (cond (eqb k 26) (wrong_depth t i)
-    (has_twin t i))))
+-- row i has that fault
+unfoldable pub row_fault : List ℕ → Fault → ℕ → Bool
+row_fault t Range i = out_of_range (row_at t i)
+row_fault t Order i = not_above t i
+row_fault t Parent i = no_parent t i
+row_fault t Depth i = wrong_depth t i
+row_fault t k i = has_twin t i
 
 -- a table has 0 to 1,024 rows
 abbrev pub row_limit : ℕ
@@ -71,30 +70,26 @@ row_limit = 1024
 abbrev pub table_length : List ℕ → Bool
 table_length t = whole row_words t && leb (row_count t) row_limit
 
--- the checks of rows, in the order in which they are made
-abbrev pub table_checks : List ℕ
-table_checks = 9 ∷ 10 ∷ 11 ∷ 26 ∷ 12 ∷ []
+-- the checks of rows, in the order in which they are made: that of siblings is the last
+abbrev pub order_checks : List Fault
+order_checks = Range ∷ Order ∷ Parent ∷ Depth ∷ []
+
+abbrev pub table_checks : List Fault
+table_checks = order_checks ++ Sibling ∷ []
 
 -- the answer of the table checks: the number of rows, or the first refusal
 unfoldable pub check_table : List ℕ → Answer
-check_table t = unless (table_length t) 8 (in_order (row_fault t) (row_count t) table_checks)
+check_table t = unless (table_length t) TableLength (in_order (row_fault t) (row_count t) table_checks)
 
 -- a table is accepted if its own checks find no fault
 abbrev pub accepted_table : List ℕ → Bool
 accepted_table t = is_done (check_table t)
 
--- ---- the checks of rows but 12
-abbrev pub but12 : ℕ → Bool
-but12 k = not (eqb k 12)
-
-abbrev pub order_checks : List ℕ
-order_checks = select but12 table_checks
-
--- what 8 and they answer
+-- what all checks but that of siblings answer
 unfoldable pub check_order : List ℕ → Answer
-check_order t = unless (table_length t) 8 (in_order (row_fault t) (row_count t) order_checks)
+check_order t = unless (table_length t) TableLength (in_order (row_fault t) (row_count t) order_checks)
 
--- the table has no fault but, maybe, 12
+-- the table has no fault but, maybe, equal siblings
 abbrev pub ordered_table : List ℕ → Bool
 ordered_table t = is_done (check_order t)
 

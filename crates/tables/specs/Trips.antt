@@ -6,8 +6,8 @@ use Rattle.tables.specs.Rules.{check_rule}
 use Rattle.tables.specs.Tables.{check_table}
 use Rattle.tables.specs.Files.{Format, rule_names, rule_format, pool_names, pool_format, write_text, read_words, read_answer}
 use Rattle.tables.specs.Files.{read_out, write_answer, write_out, accepted_file}
-use Rattle.tables.specs.declared.Answer.{Answer}
-use Rattle.tables.specs.declared.Answer.TheVariants.{Done}
+use Rattle.tables.specs.Answers.{Answer}
+use Rattle.tables.specs.Answers.{Done}
 
 -- what an accepted call wrote: its output up to the answer
 abbrev pub up_to : Answer → List ℕ → List ℕ

@@ -1,6 +1,6 @@
 // The columns of a file's line of values.
 ghost use Rattle.std.specs.Prelude.{◌≡◌, ◌<◌};
-ghost use Rattle.tables.specs.Files.{byte_after, next_column, tells_of, format, told_next, may_sign};
+ghost use Rattle.tables.specs.Files.{is_last, byte_after, tells_of, may_sign};
 
 use super::entries::{B, KIND, TO_CONSTANT};
 
@@ -12,62 +12,75 @@ pub(crate) enum Signs {
     Constants,
 }
 
-// The byte after the number in column c of k.
-pub(crate) fn byte_after(k: usize, c: usize) -> u8
-    requires { c < k }
-    ensures { result ≡ byte_after k c }
-{
-    if c + 1 == k {
-        return b'\n';
-    }
-    b' '
+// The column of a number, and what the numbers before it told: whether the last one of the line may have a sign.
+#[derive(Clone, Copy, Default)]
+pub struct Column {
+    pub index: usize,
+    pub told: bool,
 }
 
-// The column of the next number.
-pub(crate) fn next_column(k: usize, c: usize) -> usize
-    requires { c < k }
-    ensures { (result ≡ next_column k c) × (result < k) }
-{
-    if c + 1 == k {
-        return 0;
-    }
-    c + 1
+// What a line of values is.
+#[derive(Clone, Copy)]
+pub(crate) struct Format {
+    pub columns: usize,
+    pub signs: Signs,
+    ghost has_column: { 0 < columns },
 }
 
-// Whether the number in column c may have a sign.
-pub(crate) fn may_sign(k: usize, c: usize, told: bool) -> bool
-    requires { c < k }
-    ensures { result ≡ may_sign k c told }
-{
-    (c + 1 == k) & told
-}
-
-// What the number w in column c tells of the last one.
-pub(crate) fn tells(signs: Signs, c: usize, w: u32, told: bool) -> bool
-    ensures { result ≡ tells_of signs c w told }
-{
-    match signs {
-        Signs::Nowhere => false,
-        Signs::Values => true,
-        Signs::Constants => {
-            if c == KIND {
-                return (7 <= w) & (w <= 9);
-            }
-            if c == B {
-                return told & (w == TO_CONSTANT);
-            }
-            told
+impl Signs {
+    // What the number w in a column tells of the last one.
+    fn tells(self, column: Column, w: u32) -> bool
+        ensures { result ≡ tells_of self column.index w column.told }
+    {
+        match self {
+            Signs::Nowhere => false,
+            Signs::Values => true,
+            Signs::Constants => match column.index {
+                KIND => (7 <= w) & (w <= 9),
+                B => column.told & (w == TO_CONSTANT),
+                _ => column.told,
+            },
         }
     }
 }
 
-// What the next number is told: each line starts anew.
-pub(crate) fn told_next(k: usize, signs: Signs, c: usize, w: u32, told: bool) -> bool
-    requires { c < k }
-    ensures { result ≡ told_next (format k signs) c w told }
-{
-    if c + 1 == k {
-        return false;
+impl Format {
+    ghost use Rattle.tables.specs.Files.{column_after};
+    ghost use Rattle.tables.specs.Scans.{format_of};
+
+    pub fn is_last(self, column: Column) -> bool
+        ensures { result ≡ is_last self.columns column.index }
+    {
+        column.index == self.columns - 1
     }
-    tells(signs, c, w, told)
+
+    // The byte after the number in a column.
+    #[tactic(auto, unfolding(crate::specs::Files::byte_after))]
+    pub fn byte_after(self, column: Column) -> u8
+        ensures { result ≡ byte_after self.columns column.index }
+    {
+        if self.is_last(column) { b'\n' } else { b' ' }
+    }
+
+    // Whether the number in a column may have a sign.
+    pub fn may_sign(self, column: Column) -> bool
+        ensures { result ≡ may_sign self.columns column.index column.told }
+    {
+        self.is_last(column) & column.told
+    }
+
+    // The column after that of the number w: each line starts anew.
+    pub fn column_after(self, column: Column, w: u32) -> Column
+        requires { column.index < self.columns }
+        ensures after { result ≡ column_after (format_of self) column w }
+        ensures bound { result.index < self.columns }
+    {
+        if self.is_last(column) {
+            return Column::default();
+        }
+        Column {
+            index: column.index + 1,
+            told: self.signs.tells(column, w),
+        }
+    }
 }

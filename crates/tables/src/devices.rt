@@ -6,44 +6,29 @@ ghost use Rattle.tables.specs.Tables.{other_device};
 ghost use Rattle.tables.specs.Devices.{from_device, device_start, device_end, IsPart};
 ghost use Rattle.tables.specs.Spans.{IsSpan};
 
-use super::Answer;
 use super::rows::{DEVICE, ROW_WORDS};
 use super::tables::check_table;
 
-fn wide(x: u32) -> u64
-    ensures { result ≡ x }
-{
-    x as u64
-}
-
 // The first row whose device is at least d, or the number of rows where there is none.
+// Kept: no option, since both ends of a device's rows are numbers that are compared and multiplied.
 fn from_device(t: &[u32], d: u64) -> usize
     ensures { result ≡ from_device t.now d }
 {
     let n = t.len() / ROW_WORDS;
-    let mut i = 0;
-    while i < n {
-        if d <= wide(t[ROW_WORDS * i + DEVICE]) {
-            return i;
-        }
-        i += 1;
-    }
-    n
+    (0..n)
+        .find(|&i| d <= u64::from(t[ROW_WORDS * i + DEVICE]))
+        .unwrap_or(n)
 }
 
 // 14: the first row whose device isn't the first row's, or the number of rows.
+// Kept: no option, since the crates above call it by this clause.
 pub fn first_other(table: &[u32]) -> usize
     ensures { result ≡ first (other_device table.now) (row_count table.now) }
 {
     let n = table.len() / ROW_WORDS;
-    let mut i = 0;
-    while i < n {
-        if table[ROW_WORDS * i + DEVICE] != table[DEVICE] {
-            return i;
-        }
-        i += 1;
-    }
-    n
+    (0..n)
+        .find(|&i| table[ROW_WORDS * i + DEVICE] != table[DEVICE])
+        .unwrap_or(n)
 }
 
 // A run of words: from start up to end.
@@ -57,9 +42,8 @@ pub struct Span {
 pub fn device_span(table: &[u32], device: u32) -> Span
     ensures { IsSpan table.now device result.start result.end }
 {
-    let k = check_table(table);
-    if let Answer::Done(_) = k {
-        let d = wide(device);
+    if check_table(table).is_ok() {
+        let d = u64::from(device);
         let a = from_device(table, d);
         let b = from_device(table, d + 1);
         if a < b {

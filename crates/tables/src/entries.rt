@@ -1,10 +1,11 @@
 // Entries as the code reads them, and their tests.
 ghost use Rattle.std.specs.Prelude.{◌≡◌, ◌+◌, ◌*◌, ◌≤◌, ◌<◌, length};
 ghost use Rattle.base.specs.Search.{sum_below};
-ghost use Rattle.tables.specs.Words.{entry_words, entry_at};
-ghost use Rattle.tables.specs.Rules.{unknown_kind, bad_word, bad_child, unbound, is_quantifier, is_child, namings, around, one, entry_limit};
+ghost use Rattle.tables.specs.Words.{entry_words, entry_count, entry_at};
+ghost use Rattle.tables.specs.Rules.{unknown_kind, bad_word, bad_place, bad_child, unbound, is_quantifier, is_child, namings, around, entry_limit};
 
 use super::Entry;
+use super::rows::is_identifier;
 
 // The words of an entry, in the entry's order.
 pub const ENTRY_WORDS: usize = 4;
@@ -25,8 +26,8 @@ pub const TO_CONSTANT: u32 = 1;
 
 pub const TO_PARAMETER: u32 = 2;
 
-pub(crate) fn entry_at(rule: &[u32], i: usize) -> Entry
-    requires { entry_words * i + entry_words ≤ length rule.now }
+pub fn entry_at(rule: &[u32], i: usize) -> Entry
+    requires { i < entry_count rule.now }
     ensures { result ≡ entry_at rule.now i }
 {
     Entry {
@@ -40,61 +41,55 @@ pub(crate) fn entry_at(rule: &[u32], i: usize) -> Entry
 pub(crate) fn unknown_kind(e: Entry) -> bool
     ensures { result ≡ unknown_kind e }
 {
-    (e.kind < 1) | (9 < e.kind)
+    !matches!(e.kind, 1..=9)
 }
 
 // b of a comparison is at most `most`.
 pub(crate) fn bad_word(most: u32, e: Entry) -> bool
     ensures { result ≡ bad_word most e }
 {
-    ((e.kind == 1) & !(e.b == 0))
-        | (((e.kind == 1) | ((2 <= e.kind) & (e.kind <= 4))) & !(e.c == 0))
-        | (((7 <= e.kind) & (e.kind <= 9)) & (most < e.b))
-        | (((5 <= e.kind) & (e.kind <= 6)) & !(e.c == ANY_NAME) & ((e.c < 1) | (65535 < e.c)))
+    match e.kind {
+        1 => e.b != 0 || e.c != 0,
+        2..=4 => e.c != 0,
+        5..=6 => e.c != ANY_NAME && !is_identifier(e.c),
+        7..=9 => most < e.b,
+        _ => false,
+    }
+}
+
+// Whether no child of entry i of n may stand at j.
+fn bad_place(n: usize, i: usize, j: u32) -> bool
+    ensures { result ≡ bad_place n i j }
+{
+    let j = j as usize;
+    j <= i || n <= j
 }
 
 pub(crate) fn bad_child(n: usize, i: usize, e: Entry) -> bool
     ensures { result ≡ bad_child n i e }
 {
-    let a = e.a as usize;
-    let b = e.b as usize;
-    (((1 <= e.kind) & (e.kind <= 6)) & ((a <= i) | (n <= a)))
-        | (((2 <= e.kind) & (e.kind <= 4)) & ((b <= i) | (n <= b)))
+    match e.kind {
+        1 | 5..=6 => bad_place(n, i, e.a),
+        2..=4 => bad_place(n, i, e.a) || bad_place(n, i, e.b),
+        _ => false,
+    }
 }
 
 // d variables are bound at the entry.
 pub(crate) fn unbound_variable(d: usize, e: Entry) -> bool
     ensures { result ≡ unbound d e }
 {
-    let a = e.a as usize;
-    let b = e.b as usize;
-    let c = e.c as usize;
-    (((5 <= e.kind) & (e.kind <= 6)) & (d < b))
-        | (((7 <= e.kind) & (e.kind <= 9)) & ((d <= a) | ((e.b == 0) & (d <= c))))
+    match e.kind {
+        5..=6 => d < e.b as usize,
+        7..=9 => d <= e.a as usize || (e.b == 0 && d <= e.c as usize),
+        _ => false,
+    }
 }
 
 pub(crate) fn is_quantifier(e: Entry) -> bool
     ensures { result ≡ is_quantifier e }
 {
-    (5 <= e.kind) & (e.kind <= 6)
-}
-
-fn quantifier_count(e: Entry) -> usize
-    ensures value { result ≡ one (is_quantifier e) }
-    ensures upper_bound { result ≤ 1 }
-{
-    if (5 <= e.kind) & (e.kind <= 6) {
-        return 1;
-    }
-    0
-}
-
-fn is_child(e: Entry, j: usize) -> bool
-    ensures { result ≡ is_child e j }
-{
-    let a = e.a as usize;
-    let b = e.b as usize;
-    (((1 <= e.kind) & (e.kind <= 6)) & (a == j)) | (((2 <= e.kind) & (e.kind <= 4)) & (b == j))
+    matches!(e.kind, 5..=6)
 }
 
 // How many child places of e name j.
@@ -102,20 +97,19 @@ fn namings_of(e: Entry, j: usize) -> usize
     ensures value { result ≡ namings e j }
     ensures upper_bound { result ≤ 2 }
 {
-    let a = e.a as usize;
-    let b = e.b as usize;
-    let left = ((1 <= e.kind) & (e.kind <= 6)) & (a == j);
-    let right = ((2 <= e.kind) & (e.kind <= 4)) & (b == j);
-    if left {
-        if right {
-            return 2;
-        }
-        return 1;
+    let left = e.a as usize == j;
+    let right = e.b as usize == j;
+    match e.kind {
+        1 | 5..=6 => usize::from(left),
+        2..=4 => usize::from(left) + usize::from(right),
+        _ => 0,
     }
-    if right {
-        return 1;
-    }
-    0
+}
+
+fn is_child(e: Entry, j: usize) -> bool
+    ensures { result ≡ is_child e j }
+{
+    0 < namings_of(e, j)
 }
 
 // How many child places of the n entries name j.
@@ -124,10 +118,8 @@ pub(crate) fn times_named(rule: &[u32], n: usize, j: usize) -> usize
     ensures { result ≡ sum_below (λ i. namings (entry_at rule.now i) j) n }
 {
     let mut sum = 0;
-    let mut i = 0;
-    while i < n {
+    for i in 0..n {
         sum += namings_of(entry_at(rule, i), j);
-        i += 1;
     }
     sum
 }
@@ -140,13 +132,11 @@ pub(crate) fn quantifiers_around(rule: &[u32], j: usize) -> usize
 {
     let mut count = 0;
     let mut inner = j;
-    let mut i = j;
-    while 0 < i {
-        i -= 1;
+    for i in (0..j).rev() {
         let e = entry_at(rule, i);
         if is_child(e, inner) {
             inner = i;
-            count += quantifier_count(e);
+            count += usize::from(is_quantifier(e));
         }
     }
     count

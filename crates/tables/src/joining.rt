@@ -1,12 +1,12 @@
 // Joining: a table put behind another whose last device is smaller.
 ghost use Rattle.std.specs.Prelude.{◌≡◌, ◌+◌, ◌≤◌, length};
-ghost use Rattle.std.proofs.lemmas.List.Edits.{sets};
 ghost use Rattle.tables.specs.Joining.{follows, join_tables, join_answer, join_pool};
 
-use super::Answer;
+use super::refusals::{Answer, Fault, Refusal, refuse_at};
 use super::rows::{ROW_WORDS, row_at};
 use super::tables::{ROW_LIMIT, check_table};
 use super::twins::first_twin;
+use base::copy_at;
 
 // 16: the second table's first device is above the first one's last; an empty side always fits.
 fn fits_behind(s: &[u32], t: &[u32]) -> bool
@@ -26,53 +26,20 @@ fn fits_behind(s: &[u32], t: &[u32]) -> bool
 fn join_tables(s: &[u32], t: &[u32], room: usize) -> Answer
     ensures { result ≡ join_tables s.now t.now room }
 {
-    let a = check_table(s);
-    if let Answer::Refused { number, place } = a {
-        return Answer::Refused { number, place };
-    }
-    let b = check_table(t);
-    if let Answer::Refused { number, place } = b {
-        return Answer::Refused { number, place };
-    }
+    check_table(s)?;
+    check_table(t)?;
     if !fits_behind(s, t) {
-        return Answer::Refused {
-            number: 16,
-            place: 0,
-        };
+        return Err(Refusal::of(Fault::Join));
     }
     let n = (s.len() + t.len()) / ROW_WORDS;
     if ROW_LIMIT < n {
-        return Answer::Refused {
-            number: 8,
-            place: 0,
-        };
+        return Err(Refusal::of(Fault::TableLength));
     }
-    let i = first_twin(s, t, n);
-    if i < n {
-        return Answer::Refused {
-            number: 12,
-            place: i,
-        };
-    }
+    refuse_at(Fault::Sibling, first_twin(s, t, n))?;
     if room < s.len() + t.len() {
-        return Answer::Refused {
-            number: 17,
-            place: 0,
-        };
+        return Err(Refusal::of(Fault::ShortOutput));
     }
-    Answer::Done(s.len() + t.len())
-}
-
-// Copies t to the place `at` of the pool.
-fn copy_to(pool: &mut [u32], at: usize, t: &[u32])
-    requires { at + length t.now ≤ length pool.old }
-    ensures { pool.new ≡ sets pool.old at t.now }
-{
-    let mut i = 0;
-    while i < t.len() {
-        pool[at + i] = t[i];
-        i += 1;
-    }
+    Ok(s.len() + t.len())
 }
 
 // Puts the table t behind the table in the first `used` words of the pool, which then holds the joined one. The answer is the
@@ -82,18 +49,10 @@ pub fn join(pool: &mut [u32], used: usize, t: &[u32]) -> Answer
     ensures words { pool.new ≡ join_pool pool.old used t.now }
 {
     if pool.len() < used {
-        return Answer::Refused {
-            number: 8,
-            place: 0,
-        };
+        return Err(Refusal::of(Fault::TableLength));
     }
     let room = pool.len();
-    let a = join_tables(&pool[..used], t, room);
-    match a {
-        Answer::Done(n) => {
-            copy_to(pool, used, t);
-            Answer::Done(n)
-        }
-        Answer::Refused { number, place } => Answer::Refused { number, place },
-    }
+    let words = join_tables(&pool[..used], t, room)?;
+    copy_at(pool, used, t);
+    Ok(words)
 }

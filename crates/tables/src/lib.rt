@@ -5,50 +5,34 @@ mod columns;
 mod devices;
 mod entries;
 mod files;
+mod hashes;
 mod joining;
 mod links;
+mod nodes;
 mod parents;
 mod reading;
+mod refusals;
 mod rows;
 mod rules;
 mod tables;
 mod twins;
 mod writing;
 
-ghost use Rattle.std.specs.Prelude.{◌≡◌};
-ghost use Rattle.tables.specs.Answers.{value};
-
 pub use devices::{Span, device_rows, device_span, first_other};
-pub use entries::{A, ANY_NAME, B, C, ENTRY_WORDS, KIND, TO_CONSTANT, TO_PARAMETER};
+pub use entries::{A, ANY_NAME, B, C, ENTRY_WORDS, KIND, TO_CONSTANT, TO_PARAMETER, entry_at};
 pub use files::{read_pool, read_rule, write_counts, write_pool, write_refusal, write_rule};
+pub use hashes::HASHES;
 pub use joining::join;
-pub use links::HASHES;
+pub use links::Chains;
+pub use nodes::{Comparison, Connective, Node, Operand, Over, Quantifier, node_of};
+pub use refusals::{Answer, Fault, Refusal, refuse_at};
 pub use rows::{
-    AT, DEEP, DEVICE, NAME, ROW_WORDS, UP, VALUE, VALUE_LIMIT, is_above, is_parent, is_twin,
+    AT, DEEP, DEVICE, NAME, ROW_WORDS, UP, VALUE, VALUE_LIMIT, columns_of, is_above, is_parent,
+    is_twin, row_at,
 };
 pub use rules::{ENTRY_LIMIT, NESTING_LIMIT, RULE_WORDS, check_rule, check_template};
 pub use tables::{ROW_LIMIT, TABLE_WORDS, check_order, check_table};
 pub use twins::twin_hash;
-
-// What a call answers: its value, or 01's refusal by number and place.
-#[derive(Clone, Copy)]
-pub enum Answer {
-    Done(usize),
-    Refused { number: u32, place: usize },
-}
-
-// The value of an accepted answer, 0 of a refused one.
-pub fn value_of(answer: Answer) -> usize
-    ensures { result ≡ value answer }
-{
-    match answer {
-        Answer::Done(n) => n,
-        Answer::Refused {
-            number: _,
-            place: _,
-        } => 0,
-    }
-}
 
 // A row of a table.
 #[derive(Clone, Copy)]

@@ -1,42 +1,83 @@
-// Rows linked by hash, each to the last one before it with its hash: how checks 11, 26 and 12 look for earlier rows.
-ghost use Rattle.std.specs.Prelude.{◌≡◌, ◌+◌, ◌<◌, length, get_or, set};
+// Rows linked by hash: how checks 11, 26 and 12 look for earlier rows.
+ghost use Rattle.std.specs.Prelude.{◌≡◌, ℕ, ◌+◌, ◌<◌, ◌≤◌, Bool, true, get_or};
+ghost use Rattle.base.specs.Search.{some};
 ghost use Rattle.tables.specs.Tables.{row_limit};
-ghost use Rattle.tables.specs.Links.{hashes, hash_of};
+
+use super::hashes::HASHES;
+use super::tables::ROW_LIMIT;
 
 // How far a chain is followed. Longer ones only come up where the hashes of many rows are equal, and then each step waits for the
 // one before: looking at all rows is quicker.
-pub(crate) const MOST_STEPS: usize = 8;
+const MOST_STEPS: usize = 8;
 
-// A hash is below this.
-pub const HASHES: usize = 1024;
-
-fn size(x: u32) -> usize
-    ensures { result ≡ x }
-{
-    x as usize
+// The first rows of a table, each linked to the last one before it with its hash. 16 bits for a row, and 0 for none: clearing them is
+// most of a small table's cost.
+#[derive(Drop)]
+pub struct Chains {
+    // Kept: numbers of 16 bits, since options of them are wider, and the stack is fixed.
+    // For each hash one more than the last row with it.
+    head: [u16; HASHES],
+    // For each row one more than the last row before it with its hash.
+    next: [u16; ROW_LIMIT],
+    // The rows linked so far.
+    rows: usize,
+    ghost room: { rows ≤ row_limit },
+    ghost heads_within: { (h : ℕ) → get_or head h 0 ≤ rows },
+    ghost next_before: { (j : ℕ) → get_or next j 0 ≤ j },
 }
 
-// A number below 1,024: the upper 10 of 32 bits. The factors are odd, so that every bit of a word counts, and their sum is below 2^32.
-// They were searched for: words that rise in steps of 1 to 256, or of small multiples of powers of two or ten, spread, alone and in pairs.
-pub(crate) fn hash_of(device: u32, place: u32, name: u32, value: u32) -> usize
-    ensures { result ≡ hash_of device place name value }
-{
-    (size(device) * 947282241
-        + size(place) * 1870821409
-        + size(name) * 669926575
-        + size(value) * 700227275)
-        % 4294967296
-        / 4194304
-}
+impl Chains {
+    ghost use Rattle.tables.specs.Links.{hashes, Chained};
 
-// Puts row i at the head of the chain of its hash, in front of the row that stood there.
-pub(crate) fn link(head: &mut [u16], next: &mut [u16], h: usize, i: usize)
-    requires h_in_bounds { h < length head.old }
-    requires i_in_bounds { i < length next.old }
-    requires head_len { (length head.old ≡ hashes) × (length next.old ≡ row_limit) }
-    ensures head_after { head.new ≡ set head.old h (i + 1) }
-    ensures next_after { next.new ≡ set next.old i (get_or head.old h 0) }
-{
-    next[i] = head[h];
-    head[h] = (i + 1) as u16;
+    pub fn new() -> Chains
+        ensures empty { result.rows ≡ 0 }
+        ensures chained { (hash : ℕ → ℕ) → Chained hash result }
+    {
+        Chains {
+            head: [0; HASHES],
+            next: [0; ROW_LIMIT],
+            rows: 0,
+        }
+    }
+
+    // Links the next row, whose hash is h.
+    pub fn link(&mut self, h: usize)
+        requires h_in_bounds { h < hashes }
+        requires rows_in_bounds { self.old.rows < row_limit }
+        ensures rows { self.new.rows ≡ self.old.rows + 1 }
+        ensures chained { (hash : ℕ → ℕ) → h ≡ hash self.old.rows → Chained hash self.old → Chained hash self.new }
+    {
+        let i = self.rows;
+        self.next[i] = self.head[h];
+        self.head[h] = (i + 1) as u16;
+        self.rows = i + 1;
+    }
+
+    // Whether a test holds of a linked row, where such rows have the hash h. `scan` tells whether it holds of one of the first n rows.
+    pub fn any<F: Fn(usize) -> bool, G: Fn(usize) -> bool>(
+        &self,
+        h: usize,
+        test: F,
+        scan: G,
+    ) -> bool
+        requires h_in_bounds { h < hashes }
+        requires test { (j : ℕ) → j < self.now.rows → F.pre test j }
+        requires scan { (n : ℕ) → n ≤ self.now.rows → G.pre scan n }
+        ensures { (hash : ℕ → ℕ) (p : ℕ → Bool) → Chained hash self.now → ((j : ℕ) → p j ≡ true → hash j ≡ h)
+            → ((j : ℕ) (b : Bool) → F.post test j b → b ≡ p j) → ((n : ℕ) (b : Bool) → G.post scan n b → b ≡ some p n)
+            → result ≡ some p self.now.rows }
+    {
+        let mut at = self.head[h] as usize;
+        for _ in 0..MOST_STEPS {
+            if at == 0 {
+                return false;
+            }
+            let j = at - 1;
+            if test(j) {
+                return true;
+            }
+            at = self.next[j] as usize;
+        }
+        scan(at)
+    }
 }

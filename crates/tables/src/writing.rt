@@ -1,26 +1,25 @@
 // Writing a file: any line of names, any number of columns, any signs.
 ghost use Rattle.std.specs.Prelude.{◌≡◌, ◌+◌, ◌≤◌, ◌<◌, ◌^◌, length, leb};
 ghost use Rattle.std.proofs.lemmas.List.Edits.{sets};
-ghost use Rattle.tables.specs.Files.{format, number_text, word_text, lines_text, write_answer, write_out};
-ghost use Rattle.tables.specs.Scans.{plain_length, count_from};
+ghost use Rattle.tables.specs.Files.{number_text, word_text, lines_text, write_answer, write_out};
+ghost use Rattle.tables.specs.Scans.{format_of, size_below, plain_length, count_from};
 
-use super::Answer;
-use super::columns::{Signs, byte_after, may_sign, next_column, told_next};
+use super::columns::{Column, Format};
+use super::refusals::{Answer, Fault, Refusal};
 use super::rows::VALUE_LIMIT;
+use base::copy_at;
 use powers::{WORD_DIGITS, digit_at, power};
 
 // How many digits a number has.
 fn width(w: u32) -> usize
     ensures { (result ≡ length (number_text w)) × (result ≤ 10) }
 {
-    let mut n = 1;
-    while n < WORD_DIGITS {
+    for n in 1..WORD_DIGITS {
         if w < power(n) {
             return n;
         }
-        n += 1;
     }
-    n
+    WORD_DIGITS
 }
 
 // Puts the digits of w at `at`, from the first on, and answers the place past them. The last digit is what is left.
@@ -29,29 +28,33 @@ fn put_number(out: &mut [u8], at: usize, w: u32) -> usize
     ensures place { result ≡ at + length (number_text w) }
     ensures bytes { out.new ≡ sets out.old at (number_text w) }
 {
-    let mut i = width(w) - 1;
-    let mut v = w;
     let mut p = at;
-    while 0 < i {
+    let mut v = w;
+    for i in (1..width(w)).rev() {
         let digit = digit_at(v, i);
         out[p] = b'0' + digit.times as u8;
         v = digit.rest;
         p += 1;
-        i -= 1;
     }
     out[p] = b'0' + v as u8;
     p + 1
+}
+
+// The size of a word that is to have a minus sign: one that may have a sign, and is below zero.
+fn size_below(signed: bool, w: u32) -> Option<u32>
+    ensures { result ≡ size_below signed w }
+{
+    (signed & (VALUE_LIMIT < w)).then(|| (u32::MAX - w) + 1)
 }
 
 // How many bytes a word takes, where it may have a sign or not.
 fn word_width(signed: bool, w: u32) -> usize
     ensures { (result ≡ length (word_text signed w)) × (result ≤ 11) }
 {
-    let below = signed & (VALUE_LIMIT < w);
-    if below {
-        return width((4294967295 - w) + 1) + 1;
+    match size_below(signed, w) {
+        Some(size) => 1 + width(size),
+        None => width(w),
     }
-    width(w)
 }
 
 // Puts a word at `at`, with its minus sign if it may have one and is below zero, and answers the place past it.
@@ -60,23 +63,12 @@ fn put_word(out: &mut [u8], at: usize, signed: bool, w: u32) -> usize
     ensures place { result ≡ at + length (word_text signed w) }
     ensures bytes { out.new ≡ sets out.old at (word_text signed w) }
 {
-    let below = signed & (VALUE_LIMIT < w);
-    if below {
-        out[at] = b'-';
-        return put_number(out, at + 1, (4294967295 - w) + 1);
-    }
-    put_number(out, at, w)
-}
-
-// Puts the bytes t at `at`.
-fn put_bytes(out: &mut [u8], at: usize, t: &[u8])
-    requires { at + length t.now ≤ length out.old }
-    ensures { out.new ≡ sets out.old at t.now }
-{
-    let mut i = 0;
-    while i < t.len() {
-        out[at + i] = t[i];
-        i += 1;
+    match size_below(signed, w) {
+        Some(size) => {
+            out[at] = b'-';
+            put_number(out, at + 1, size)
+        }
+        None => put_number(out, at, w),
     }
 }
 
@@ -85,10 +77,8 @@ fn count_from(words: &[u32], from: u32) -> usize
     ensures { result ≡ count_from from words.now }
 {
     let mut count = 0;
-    let mut i = 0;
-    while i < words.len() {
-        count += (from <= words[i]) as usize;
-        i += 1;
+    for w in words {
+        count += usize::from(from <= *w);
     }
     count
 }
@@ -101,8 +91,7 @@ fn plain_fits(words: &[u32], room: usize) -> bool
 {
     // A digit and the byte after it.
     let mut bytes = 2 * words.len();
-    let mut n = 1;
-    while n < WORD_DIGITS {
+    for n in 1..WORD_DIGITS {
         if room < bytes {
             return false;
         }
@@ -111,38 +100,32 @@ fn plain_fits(words: &[u32], room: usize) -> bool
             return true;
         }
         bytes += wider;
-        n += 1;
     }
     bytes <= room
 }
 
 // Whether the words fit with their signs, word by word.
-fn signed_fits(k: usize, signs: Signs, words: &[u32], room: usize) -> bool
-    requires { 0 < k }
-    ensures { result ≡ leb (length (lines_text (format k signs) words.now)) room }
+fn signed_fits(format: Format, words: &[u32], room: usize) -> bool
+    ensures { result ≡ leb (length (lines_text (format_of format) words.now)) room }
 {
     let mut left = room;
-    let mut c = 0;
-    let mut told = false;
-    let mut i = 0;
-    while i < words.len() {
-        let n = word_width(may_sign(k, c, told), words[i]) + 1;
+    let mut column = Column::default();
+    for w in words {
+        let n = word_width(format.may_sign(column), *w) + 1;
         if left < n {
             return false;
         }
         left -= n;
-        told = told_next(k, signs, c, words[i], told);
-        c = next_column(k, c);
-        i += 1;
+        column = format.column_after(column, *w);
     }
     true
 }
 
 // Whether the text of the words fits. Only words from 2147483648 up have a sign, and it adds a byte at most: where there is room for one with
 // each of them, or there are none of them, the words need not be looked at one by one.
-fn text_fits(k: usize, signs: Signs, words: &[u32], room: usize) -> bool
-    requires { (0 < k) × (room < 2 ^ 63) }
-    ensures { result ≡ leb (length (lines_text (format k signs) words.now)) room }
+fn text_fits(format: Format, words: &[u32], room: usize) -> bool
+    requires { room < 2 ^ 63 }
+    ensures { result ≡ leb (length (lines_text (format_of format) words.now)) room }
 {
     let signed = count_from(words, VALUE_LIMIT + 1);
     if room < signed {
@@ -151,65 +134,42 @@ fn text_fits(k: usize, signs: Signs, words: &[u32], room: usize) -> bool
     if plain_fits(words, room - signed) {
         return true;
     }
-    if signed == 0 {
-        return false;
-    }
-    signed_fits(k, signs, words, room)
+    (signed != 0) && signed_fits(format, words, room)
 }
 
 // Puts the words at `at`, each with the byte after it, and answers the place past them.
-fn put_words(k: usize, signs: Signs, words: &[u32], out: &mut [u8], at: usize) -> usize
-    requires { (0 < k) × (at + length (lines_text (format k signs) words.now) ≤ length out.old) }
-    ensures place { result ≡ at + length (lines_text (format k signs) words.now) }
-    ensures bytes { out.new ≡ sets out.old at (lines_text (format k signs) words.now) }
+fn put_words(format: Format, words: &[u32], out: &mut [u8], at: usize) -> usize
+    requires { at + length (lines_text (format_of format) words.now) ≤ length out.old }
+    ensures place { result ≡ at + length (lines_text (format_of format) words.now) }
+    ensures bytes { out.new ≡ sets out.old at (lines_text (format_of format) words.now) }
 {
     let mut p = at;
-    let mut c = 0;
-    let mut told = false;
-    let mut i = 0;
-    while i < words.len() {
-        p = put_word(out, p, may_sign(k, c, told), words[i]);
-        out[p] = byte_after(k, c);
+    let mut column = Column::default();
+    for w in words {
+        p = put_word(out, p, format.may_sign(column), *w);
+        out[p] = format.byte_after(column);
         p += 1;
-        told = told_next(k, signs, c, words[i], told);
-        c = next_column(k, c);
-        i += 1;
+        column = format.column_after(column, *w);
     }
     p
 }
 
-// Writes the words as a file with that line of names, k columns and those signs, if the table's own checks accepted them.
+// Writes the words as a file with that line of names and that format, if the table's own checks accepted them.
 pub(crate) fn write_file(
     names: &[u8],
-    k: usize,
-    signs: Signs,
+    format: Format,
     checked: Answer,
     words: &[u32],
     out: &mut [u8],
 ) -> Answer
-    requires { 0 < k }
-    ensures answer { result ≡ write_answer names.now (format k signs) checked words.now (length out.old) }
-    ensures bytes { out.new ≡ write_out names.now (format k signs) checked words.now out.old }
+    ensures answer { result ≡ write_answer names.now (format_of format) checked words.now (length out.old) }
+    ensures bytes { out.new ≡ write_out names.now (format_of format) checked words.now out.old }
 {
-    if let Answer::Refused { number, place } = checked {
-        return Answer::Refused {
-            number: number,
-            place: place,
-        };
-    }
+    checked?;
     let h = names.len();
-    if out.len() < h {
-        return Answer::Refused {
-            number: 17,
-            place: 0,
-        };
+    if out.len() < h || !text_fits(format, words, out.len() - h) {
+        return Err(Refusal::of(Fault::ShortOutput));
     }
-    if !text_fits(k, signs, words, out.len() - h) {
-        return Answer::Refused {
-            number: 17,
-            place: 0,
-        };
-    }
-    put_bytes(out, 0, names);
-    Answer::Done(put_words(k, signs, words, out, h))
+    copy_at(out, 0, names);
+    Ok(put_words(format, words, out, h))
 }

@@ -1,8 +1,8 @@
--- Entries that 1 to 7 do not tell apart, one in a template and one in a rule: then the checks answer the same. Assumes nothing.
+-- Entries that the checks do not tell apart, one in a template and one in a rule: then the checks answer the same. Assumes nothing.
 use Prim.Native.Nat.{ℕ, zero, suc, ◌+◌, ◌-◌, ◌/◌, ◌%◌, ◌≤◌, ◌<◌}
-use mathlib.Core.Path.{◌≡◌, refl, sym, ap, subst, ◌∙◌}
+use mathlib.Core.Path.{◌≡◌, refl, sym, ap, ap₂, subst, ◌∙◌}
 use mathlib.Core.Bool.{true, false, cond, not, false≢true, ◌&&◌, ◌||◌}
-use mathlib.Core.List.{List}
+use mathlib.Core.List.{List, [], ◌∷◌}
 use native.Mathlib.Omega.{arith}
 use lib.ListN.{length}
 use lib.Dec.{eqb, ltb, leb}
@@ -10,15 +10,17 @@ use borrow.Author.Tests.{lt-ltb, le-ltb, ltb-true, ltb-false, leb-true, eqb-true
 use Rattle.base.proofs.Bools.{either, and_left, and_right, and_both}
 use Rattle.base.specs.Search.{sum_below}
 use Rattle.base.proofs.Sums.{sum_same}
-use Rattle.tables.specs.Answers.{unless, in_order}
+use Rattle.tables.specs.Answers.{Answer, Refused, unless, in_order}
 use Rattle.tables.specs.Words.{entry_words, entry_at, entry_count}
 use Rattle.tables.specs.Rules.{nesting_limit, is_quantifier, is_comparison, one, namings, is_child, times_named, around_from, around}
 use Rattle.tables.specs.Rules.{to_constant, to_parameter, bad_word, bad_child, unbound, entry_fault, entry_limit, rule_length, rule_checks, check_entries}
 use Rattle.tables.specs.declared.Entry.{Entry}
-use Rattle.tables.proofs.Answers.{in_order_same}
+use Rattle.base.proofs.Search.{first_same}
 use Rattle.tables.proofs.Faults.{words_same}
 use Rattle.templates.specs.Templates.{is_blank, parameter, filled_entry}
 use Rattle.templates.proofs.Filling.{filled_other, filled_blank}
+use Rattle.tables.specs.declared.refusals.Fault.TheVariants.{RuleLength, Kind, Word, Child, Naming, Nesting, Unbound}
+use Rattle.tables.specs.declared.refusals.Fault.{Fault}
 
 pub record Alike (e f : Entry) : Type 0 where
   pub kind : f.kind ≡ e.kind
@@ -105,26 +107,32 @@ module _ (t r : List ℕ) (as_long : length r ≡ length t) (alike : (i : ℕ) �
       ap (sum_below (λ i. namings (entry_at r i) j)) as_many
       ∙ sum_same (λ i. namings (entry_at r i) j) (λ i. namings (entry_at t i) j) n (λ i h. (alike i h).names j)
 
-  fault_same : (k i : ℕ) → i < n → entry_fault to_constant r k i ≡ entry_fault to_parameter t k i
-  unfolding entry_fault
-  fault_same k i h =
-      let same = alike i h in
-      λ z. cond (eqb k 2) (ltb (same.kind z) 1 || ltb 9 (same.kind z))
-      (cond (eqb k 3) (same.words z)
-      (cond (eqb k 4) (children z)
-      (cond (eqb k 5) (ltb 0 i && not (eqb (named_same i z) 1))
-      (cond (eqb k 6) (quantifies i h z && leb nesting_limit (around_same i h z))
-      (variables z)))))
-    where
-      children : bad_child (entry_count r) i (entry_at r i) ≡ bad_child n i (entry_at t i)
-      children = ap (λ (m : ℕ). bad_child m i (entry_at r i)) as_many ∙ (alike i h).children n i
+  children : (i : ℕ) → i < n → bad_child (entry_count r) i (entry_at r i) ≡ bad_child n i (entry_at t i)
+  children i h = ap (λ (m : ℕ). bad_child m i (entry_at r i)) as_many ∙ (alike i h).children n i
 
-      variables : unbound (around r i) (entry_at r i) ≡ unbound (around t i) (entry_at t i)
-      variables = ap (λ (d : ℕ). unbound d (entry_at r i)) (around_same i h) ∙ (alike i h).variables (around t i)
+  variables : (i : ℕ) → i < n → unbound (around r i) (entry_at r i) ≡ unbound (around t i) (entry_at t i)
+  variables i h = ap (λ (d : ℕ). unbound d (entry_at r i)) (around_same i h) ∙ (alike i h).variables (around t i)
+
+  -- one check and those behind it
+  then_same : (k : Fault) (ks : List Fault) → ((i : ℕ) → i < n → entry_fault to_constant r k i ≡ entry_fault to_parameter t k i)
+      → in_order (entry_fault to_constant r) n ks ≡ in_order (entry_fault to_parameter t) n ks
+      → in_order (entry_fault to_constant r) n (k ∷ ks) ≡ in_order (entry_fault to_parameter t) n (k ∷ ks)
+  then_same k ks here behind =
+      ap₂ (λ (m : ℕ) (next : Answer). cond (ltb m n) (Refused k m) next) (first_same (entry_fault to_constant r k) (entry_fault to_parameter t k) n here) behind
+
+  faults_same : in_order (entry_fault to_constant r) n rule_checks ≡ in_order (entry_fault to_parameter t) n rule_checks
+  unfolding entry_fault
+  faults_same =
+      then_same Kind (Word ∷ Child ∷ Naming ∷ Nesting ∷ Unbound ∷ []) (λ i h z. ltb ((alike i h).kind z) 1 || ltb 9 ((alike i h).kind z))
+      (then_same Word (Child ∷ Naming ∷ Nesting ∷ Unbound ∷ []) (λ i h. (alike i h).words)
+      (then_same Child (Naming ∷ Nesting ∷ Unbound ∷ []) children
+      (then_same Naming (Nesting ∷ Unbound ∷ []) (λ i h z. ltb 0 i && not (eqb (named_same i z) 1))
+      (then_same Nesting (Unbound ∷ []) (λ i h z. quantifies i h z && leb nesting_limit (around_same i h z))
+      (then_same Unbound [] variables refl)))))
 
   pub checks_same : check_entries to_constant r ≡ check_entries to_parameter t
   unfolding check_entries
   checks_same =
-      ap (λ (l : ℕ). unless (eqb (l % entry_words) 0 && (leb 1 (l / entry_words) && leb (l / entry_words) entry_limit)) 1
+      ap (λ (l : ℕ). unless (eqb (l % entry_words) 0 && (leb 1 (l / entry_words) && leb (l / entry_words) entry_limit)) RuleLength
       (in_order (entry_fault to_constant r) (l / entry_words) rule_checks)) as_long
-      ∙ ap (unless (rule_length t) 1) (in_order_same (entry_fault to_constant r) (entry_fault to_parameter t) n fault_same rule_checks)
+      ∙ ap (unless (rule_length t) RuleLength) faults_same

@@ -10,20 +10,19 @@ use borrow.Author.Tests.{leb-true, leb-false, le-leb, lt-leb, ltb-true, eqb-true
 use Rattle.base.specs.Search.{first}
 use Rattle.base.proofs.Bools.{either, and_left, and_right, and_both, and_rest}
 use Rattle.base.proofs.Search.{at_first, some_at, some_none, none_at}
-use Rattle.tables.specs.Answers.{is_done, unless, unless_any, fitting}
+use Rattle.tables.specs.Answers.{Answer, Done, is_done, unless, unless_any, fitting}
 use Rattle.tables.specs.Words.{entry_at, entry_count}
 use Rattle.tables.specs.Rules.{to_parameter, check_template}
-use Rattle.tables.specs.declared.Answer.{Answer}
-use Rattle.tables.specs.declared.Answer.TheVariants.{Done}
 use Rattle.tables.proofs.Answers.{unless_ok, unless_next, unless_passed, none_of, unless_any_next, unless_any_passed}
 use Rattle.tables.proofs.Answers.{and_then_first, and_then_next, and_then_passed}
 use Rattle.tables.proofs.AcceptedRule.{whole_entries}
 use Rattle.templates.specs.Templates.{is_blank, parameter_limit, lacks_parameter, has_number, is_used, all_used, parameters_fit, filled, fill_answer}
 use Rattle.templates.specs.Templates.{EachHasParameter, EachHasBlank, Fillable, FilledExactly}
 use Rattle.templates.proofs.Filling.{filled_length}
+use Rattle.tables.specs.declared.refusals.Fault.TheVariants.{ShortOutput, Blank, Parameters}
 
 module _ (t : List ℕ) where
-  -- ---- 21
+  -- ---- each blank has a parameter
   lacks_none : {count : ℕ} → EachHasParameter t count → (i : ℕ) → i < entry_count t → lacks_parameter t count i ≡ false
   lacks_none {count} has i h = either (is_blank (entry_at t i))
       (λ g. rw g (lt-leb count (entry_at t i).c (has i h g)))
@@ -32,7 +31,7 @@ module _ (t : List ℕ) where
   has_parameter : {count : ℕ} → ((i : ℕ) → i < entry_count t → lacks_parameter t count i ≡ false) → EachHasParameter t count
   has_parameter {count} none i h g = leb-false count (entry_at t i).c (and_rest (is_blank (entry_at t i)) _ (none i h) g)
 
-  -- ---- 22
+  -- ---- each parameter has a blank
   used : (p : ℕ) → is_used t p ≡ true
       → (i : ℕ) × (i < entry_count t) × (is_blank (entry_at t i) ≡ true) × ((entry_at t i).c ≡ p)
   used p e =
@@ -58,10 +57,10 @@ module _ (t ps : List ℕ) (room : ℕ) where
   fit = fitting (filled t ps) room
 
   abbrev after_21 : Answer
-  after_21 = unless (parameters_fit t (length ps)) 22 fit
+  after_21 = unless (parameters_fit t (length ps)) Parameters fit
 
   abbrev after_7 : Answer
-  after_7 = unless_any (lacks_parameter t (length ps)) 21 (entry_count t) after_21
+  after_7 = unless_any (lacks_parameter t (length ps)) Blank (entry_count t) after_21
 
   -- passed, the value is the number of the filled rule's words
   passed : is_done (check_template t) ≡ true → ((i : ℕ) → i < entry_count t → lacks_parameter t (length ps) i ≡ false)
@@ -69,9 +68,9 @@ module _ (t ps : List ℕ) (room : ℕ) where
   unfolding fill_answer
   passed checked none parameters fits =
       and_then_passed (check_template t) after_7 checked
-      ∙ unless_any_passed (lacks_parameter t (length ps)) 21 (entry_count t) after_21 none
-      ∙ unless_passed (parameters_fit t (length ps)) 22 fit parameters
-      ∙ unless_passed (leb (length (filled t ps)) room) 17 (Done (length (filled t ps))) fits
+      ∙ unless_any_passed (lacks_parameter t (length ps)) Blank (entry_count t) after_21 none
+      ∙ unless_passed (parameters_fit t (length ps)) Parameters fit parameters
+      ∙ unless_passed (leb (length (filled t ps)) room) ShortOutput (Done (length (filled t ps))) fits
 
   module _ (ok : is_done (fill_answer t ps room) ≡ true) where
     pub template_ok : is_done (check_template t) ≡ true
@@ -83,18 +82,18 @@ module _ (t ps : List ℕ) (room : ℕ) where
     rest_ok = and_then_next (check_template t) after_7 ok
 
     none_lacks : (i : ℕ) → i < entry_count t → lacks_parameter t (length ps) i ≡ false
-    none_lacks = none_of (lacks_parameter t (length ps)) 21 (entry_count t) after_21 rest_ok
+    none_lacks = none_of (lacks_parameter t (length ps)) Blank (entry_count t) after_21 rest_ok
 
     last_ok : is_done after_21 ≡ true
-    last_ok = unless_any_next (lacks_parameter t (length ps)) 21 (entry_count t) after_21 rest_ok
+    last_ok = unless_any_next (lacks_parameter t (length ps)) Blank (entry_count t) after_21 rest_ok
 
     parameters_ok : parameters_fit t (length ps) ≡ true
-    parameters_ok = unless_ok (parameters_fit t (length ps)) 22 fit last_ok
+    parameters_ok = unless_ok (parameters_fit t (length ps)) Parameters fit last_ok
 
     room_ok : leb (length (filled t ps)) room ≡ true
     room_ok =
-        unless_ok (leb (length (filled t ps)) room) 17 (Done (length (filled t ps)))
-        (unless_next (parameters_fit t (length ps)) 22 fit last_ok)
+        unless_ok (leb (length (filled t ps)) room) ShortOutput (Done (length (filled t ps)))
+        (unless_next (parameters_fit t (length ps)) Parameters fit last_ok)
 
     pub fill_done : fill_answer t ps room ≡ Done (length (filled t ps))
     fill_done = passed template_ok none_lacks parameters_ok room_ok
@@ -102,7 +101,7 @@ module _ (t ps : List ℕ) (room : ℕ) where
   template_words : is_done (check_template t) ≡ true → length (filled t ps) ≡ length t
   template_words ok = filled_length t ps ∙ sym (whole_entries to_parameter t ok)
 
-  fillable : is_done (fill_answer t ps room) ≡ true → Fillable t ps room
+  pub fillable : is_done (fill_answer t ps room) ≡ true → Fillable t ps room
   fillable ok = record {
     checked = template_ok ok;
     each_has_parameter = has_parameter t (none_lacks ok);

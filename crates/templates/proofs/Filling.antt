@@ -1,12 +1,13 @@
 -- What the code that fills a template rests on: the words that it writes. Assumes nothing.
-use Prim.Native.Nat.{ℕ, zero, suc, ◌+◌, ◌*◌, ◌/◌, ◌%◌, ◌≤◌, ◌<◌}
-use mathlib.Core.Path.{◌≡◌, refl, sym, ap, subst, ◌∙◌}
+use Prim.Native.Nat.{ℕ, zero, suc, ◌+◌, ◌-◌, ◌*◌, ◌≤◌, ◌<◌}
+use mathlib.Core.Path.{◌≡◌, refl, sym, ap, ap₂, ◌∙◌}
 use mathlib.Core.Bool.{Bool, true, false, cond}
-use mathlib.Core.List.{List, [], ◌∷◌}
+use mathlib.Core.List.{List}
+use native.Mathlib.Numerals.{add-one}
 use native.Mathlib.Omega.{arith}
-use lib.ListN.{length, get_or, set}
-use lib.Seq.{sets}
-use Rattle.base.proofs.Copies.{Copying, copy_more, copy_end}
+use lib.ListN.{length, get_or}
+use lib.Seq.{sets, length-sets}
+use Rattle.base.proofs.Copies.{sets_append}
 use Rattle.tables.specs.Words.{word, entry_words, entry_columns, entry_at, entry_count}
 use Rattle.tables.specs.Rules.{to_constant}
 use Rattle.tables.specs.declared.Entry.{Entry}
@@ -59,81 +60,35 @@ module _ (t ps : List ℕ) where
       c = filled_word 3 (omega arith) j;
     }
 
--- ---- word j, by its column: the template's, but for b and c of a blank
-module _ (t ps : List ℕ) (j : ℕ) (h : j < entry_words * entry_count t) where
-  abbrev i : ℕ
-  i = j / entry_words
+-- ---- the loop that writes them, entry by entry
+module _ (t ps out₀ : List ℕ) where
+  -- i entries are written
+  pub record Put (out : List ℕ) (i : ℕ) : Type 0 where
+    pub len : length out ≡ length out₀
+    pub rest : sets out₀ 0 (filled t ps) ≡ sets out (entry_words * i) (filled_from t ps i (entry_count t - i))
 
-  abbrev column : ℕ
-  column = j % entry_words
+  pub put_begin : Put out₀ 0
+  put_begin =
+      let z : entry_count t ≡ entry_count t - 0 = omega arith in
+      record { len = refl; rest = ap (λ (n : ℕ). sets out₀ 0 (filled_from t ps 0 n)) z }
 
-  at_word : j ≡ entry_words * i + column
-  at_word = omega arith
+  pub put_more : {out out' : List ℕ} {i : ℕ} → Put out i → i < entry_count t → out' ≡ sets out (entry_words * i) (entry_columns (filled_entry ps (entry_at t i))) → Put out' (i + 1)
+  unfolding filled_from
+  put_more {out} {out'} {i} s h e =
+      let columns = entry_columns (filled_entry ps (entry_at t i)) in
+      let n : entry_count t - i ≡ suc (entry_count t - (i + 1)) = omega arith in
+      let z : entry_words * i + entry_words ≡ entry_words * (i + 1) = omega arith in
+      record {
+        len = ap length e ∙ length-sets out (entry_words * i) columns ∙ s.len;
+        rest = s.rest
+            ∙ ap (λ (k : ℕ). sets out (entry_words * i) (filled_from t ps i k)) n
+            ∙ sets_append out (entry_words * i) columns (filled_from t ps (suc i) (entry_count t - (i + 1)))
+            ∙ ap₂ (λ (o : List ℕ) (k : ℕ). sets o k (filled_from t ps (suc i) (entry_count t - (i + 1)))) (sym e) z
+            ∙ ap (λ (k : ℕ). sets out' (entry_words * (i + 1)) (filled_from t ps k (entry_count t - (i + 1)))) (sym (add-one i));
+      }
 
-  by_column : get_or (filled t ps) j 0 ≡ get_or (entry_columns (filled_entry ps (entry_at t i))) column 0
-  by_column = ap (λ (m : ℕ). get_or (filled t ps) m 0) at_word ∙ filled_word t ps i (omega arith) column (omega arith)
-
-  same_column : (c : ℕ) → c < entry_words → get_or (entry_columns (entry_at t i)) c 0 ≡ get_or t (entry_words * i + c) 0
-  same_column zero k = refl
-  same_column (suc zero) k = refl
-  same_column (suc (suc zero)) k = refl
-  same_column (suc (suc (suc zero))) k = refl
-  same_column (suc (suc (suc (suc c)))) k = absurd (omega arith)
-
-  template_word : get_or (entry_columns (entry_at t i)) column 0 ≡ get_or t j 0
-  template_word = same_column column (omega arith) ∙ ap (λ (m : ℕ). get_or t m 0) (sym at_word)
-
-  pub other_word : is_blank (entry_at t i) ≡ false → get_or t j 0 ≡ get_or (filled t ps) j 0
-  other_word f = sym (by_column ∙ ap (λ (x : Entry). get_or (entry_columns x) column 0) (filled_other ps (entry_at t i) f) ∙ template_word)
-
-  module _ (g : is_blank (entry_at t i) ≡ true) where
-    abbrev e : Entry
-    e = entry_at t i
-
-    abbrev columns : List ℕ
-    columns = e.kind ∷ e.a ∷ to_constant ∷ parameter ps e.c ∷ []
-
-    blank_word : (c : ℕ) → column ≡ c → get_or (filled t ps) j 0 ≡ get_or columns c 0
-    blank_word c c_is =
-        by_column ∙ ap (λ (x : Entry). get_or (entry_columns x) column 0) (filled_blank ps e g) ∙ ap (λ (m : ℕ). get_or columns m 0) c_is
-
-    pub constant_word : column ≡ 2 → to_constant ≡ get_or (filled t ps) j 0
-    constant_word q = sym (blank_word 2 q)
-
-    -- c of the entry is the word itself
-    pub number_word : column ≡ 3 → get_or t j 0 ≡ e.c
-    number_word q = ap (λ (m : ℕ). get_or t m 0) (at_word ∙ ap (◌+◌ (entry_words * i)) q)
-
-    pub parameter_word : column ≡ 3 → parameter ps (get_or t j 0) ≡ get_or (filled t ps) j 0
-    parameter_word q = ap (parameter ps) (number_word q) ∙ sym (blank_word 3 q)
-
-    first_two : (c : ℕ) → c < entry_words → (c ≡ 2 → ⊥) → (c ≡ 3 → ⊥) → get_or columns c 0 ≡ get_or (entry_columns e) c 0
-    first_two zero k m n = refl
-    first_two (suc zero) k m n = refl
-    first_two (suc (suc zero)) k m n = absurd (m refl)
-    first_two (suc (suc (suc zero))) k m n = absurd (n refl)
-    first_two (suc (suc (suc (suc c)))) k m n = absurd (omega arith)
-
-    pub kept_word : (column ≡ 2 → ⊥) → (column ≡ 3 → ⊥) → get_or t j 0 ≡ get_or (filled t ps) j 0
-    kept_word m n = sym (blank_word column refl ∙ first_two column (omega arith) m n ∙ template_word)
-
--- what each way through the choice of a word rests on
-pub ruleset words_filled = (other_word, constant_word, number_word, parameter_word, kept_word)
-
--- ---- the loop that writes them
-module _ (t ps : List ℕ) (whole : length t ≡ entry_words * entry_count t) (out₀ : List ℕ) where
-  -- j words are written
-  abbrev Put : List ℕ → ℕ → Type 0
-  Put out j = Copying (filled t ps) out₀ 0 out j
-
-  as_long : length (filled t ps) ≡ length t
-  as_long = filled_length t ps ∙ sym whole
-
-  pub put_more : {out : List ℕ} {j x : ℕ} → Put out j → j < length t → x ≡ get_or (filled t ps) j 0 → Put (set out j x) (j + 1)
-  put_more {out} {j} {x} s h x_is =
-      let z : 0 + j ≡ j = omega arith in
-      subst (λ (y : ℕ). Put (set out j y) (j + 1)) (sym x_is)
-      (subst (λ (m : ℕ). Put (set out m (get_or (filled t ps) j 0)) (j + 1)) z (copy_more (filled t ps) out₀ 0 out j s (omega (arith, as_long))))
-
-  pub put_end : {out : List ℕ} {j : ℕ} → Put out j → length t ≤ j → out ≡ sets out₀ 0 (filled t ps)
-  put_end {out} {j} s h = copy_end (filled t ps) out₀ 0 out j s (omega (arith, as_long))
+  pub put_end : {out : List ℕ} {i : ℕ} → Put out i → entry_count t ≤ i → out ≡ sets out₀ 0 (filled t ps)
+  unfolding filled_from
+  put_end {out} {i} s h =
+      let z : entry_count t - i ≡ 0 = omega arith in
+      sym (s.rest ∙ ap (λ (k : ℕ). sets out (entry_words * i) (filled_from t ps i k)) z)

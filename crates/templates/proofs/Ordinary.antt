@@ -9,10 +9,9 @@ use native.Mathlib.Omega.{arith}
 use lib.Dec.{leb}
 use borrow.Author.Tests.{leb-true, eqb-true, eq-eqb}
 use Rattle.base.proofs.Bools.{either, and_left, and_right}
-use Rattle.tables.specs.Answers.{value, is_done, output}
+use Rattle.tables.specs.Answers.{Answer, value, is_done, output}
 use Rattle.tables.specs.Words.{whole, entry_words, entry_at}
 use Rattle.tables.specs.Rules.{is_comparison, to_constant, to_parameter, check_rule, check_template, accepted_rule}
-use Rattle.tables.specs.declared.Answer.{Answer}
 use Rattle.tables.proofs.AcceptedRule.{whole_entries, checked_count, b_limited}
 use Rattle.tables.proofs.Whole.{whole_lines}
 use Rattle.templates.specs.Templates.{filled, fill_answer, fill_out, CheckedAlike, written, Ordinary, FillsToRules, BlanksRefused}

@@ -1,12 +1,11 @@
 -- 02, wish 5: templates, which are rules with blanks, and the rule that filling one gives. Assumes nothing.
 use Rattle.std.specs.Prelude.{ℕ, zero, suc, ◌≤◌, ◌<◌, ◌≡◌, Bool, true, false, cond, not, ◌&&◌, List, [], ◌++◌, length, get_or, take, eqb, leb}
 use Rattle.base.specs.Search.{some}
-use Rattle.tables.specs.Answers.{value, is_done, and_then, unless, unless_any, fitting, output}
+use Rattle.tables.specs.Answers.{Answer, Done, value, is_done, and_then, unless, unless_any, fitting, output}
 use Rattle.tables.specs.Words.{whole, entry_words, entry_columns, entry_at, entry_count}
 use Rattle.tables.specs.Rules.{is_comparison, to_constant, to_parameter, check_rule, check_template, accepted_rule}
 use Rattle.tables.specs.declared.Entry.{Entry}
-use Rattle.tables.specs.declared.Answer.{Answer}
-use Rattle.tables.specs.declared.Answer.TheVariants.{Done}
+use Rattle.tables.specs.declared.refusals.Fault.TheVariants.{Blank, Parameters}
 
 -- a blank: a comparison with b = 2, whose c is a parameter number
 abbrev pub is_blank : Entry → Bool
@@ -16,12 +15,12 @@ is_blank e = is_comparison e && eqb e.b to_parameter
 abbrev pub parameter_limit : ℕ
 parameter_limit = 16
 
--- where there is none, 21 refuses
+-- where there is none, the call is refused
 abbrev pub parameter : List ℕ → ℕ → ℕ
 parameter parameters p = get_or parameters p 0
 
 -- ---- the refusals, after 1 to 7
--- 21: entry i has a parameter number without a parameter, where so many are given
+-- entry i has a parameter number without a parameter, where so many are given
 abbrev pub lacks_parameter : List ℕ → ℕ → ℕ → Bool
 lacks_parameter template count i = is_blank (entry_at template i) && leb count (entry_at template i).c
 
@@ -37,7 +36,7 @@ is_used template p = some (has_number template p) (entry_count template)
 abbrev pub all_used : List ℕ → ℕ → Bool
 all_used template count = not (some (λ p. not (is_used template p)) count)
 
--- 22: there are over 16 parameters or one is never used
+-- there are not over 16 parameters, and none is never used
 abbrev pub parameters_fit : List ℕ → ℕ → Bool
 parameters_fit template count = leb count parameter_limit && all_used template count
 
@@ -63,8 +62,8 @@ filled template parameters = filled_from template parameters 0 (entry_count temp
 unfoldable pub fill_answer : List ℕ → List ℕ → ℕ → Answer
 fill_answer template parameters room =
     and_then (check_template template)
-    (unless_any (lacks_parameter template (length parameters)) 21 (entry_count template)
-    (unless (parameters_fit template (length parameters)) 22 (fitting (filled template parameters) room)))
+    (unless_any (lacks_parameter template (length parameters)) Blank (entry_count template)
+    (unless (parameters_fit template (length parameters)) Parameters (fitting (filled template parameters) room)))
 
 unfoldable pub fill_out : List ℕ → List ℕ → List ℕ → List ℕ
 fill_out template parameters out = output (fill_answer template parameters (length out)) (filled template parameters) out

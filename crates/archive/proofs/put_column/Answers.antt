@@ -7,24 +7,11 @@ use Rattle.archive.proofs.put_column.Goals as goal
 pub loop-i-init : goal.loop-i-init
 loop-i-init c = copy_begin _ _ _
 
-pub offset_bounds-columns-column_place : goal.offset_bounds-columns-column_place
-offset_bounds-columns-column_place c = omega (arith, c.column_place.ensures.1)
-
-pub bounds-columns-column_place : goal.bounds-columns-column_place
-bounds-columns-column_place c = omega (arith, c.column_place.ensures.1, c.requires.1, c.loop-i.invariant.len)
-
-pub overflow_add-i : goal.overflow_add-i
-overflow_add-i c = omega (arith, c.loop-i-test.true)
-
-pub loop-i-smaller : goal.loop-i-smaller
-loop-i-smaller c = omega (arith, c.loop-i-test.true)
-
 pub loop-i-preserved : goal.loop-i-preserved
-loop-i-preserved c = word_laid _ _ _ _ c.loop-i.invariant c.loop-i-test.true
-    c.column_place.ensures.0 c.archived_word.ensures
+loop-i-preserved c = word_laid _ _ _ _ c.loop-i.invariant (omega arith) c.column_place.ensures.0 c.archived_word.ensures
 
 pub shape_of-columns : goal.shape_of-columns
 shape_of-columns c = c.loop-i.invariant.len
 
 pub returns : goal.returns
-returns c = words_laid _ _ _ _ c.loop-i.invariant c.loop-i-test.false
+returns c = words_laid _ _ _ _ c.loop-i.invariant (omega arith)

@@ -6,21 +6,11 @@ use Rattle.archive.proofs.put_columns.Goals as goal
 pub loop-c-init : goal.loop-c-init
 loop-c-init c = none_laid _ _ _ _
 
-pub put_column-requires : goal.put_column-requires
-put_column-requires c = (omega arith, omega (arith, c.requires, c.loop-c.invariant.len))
-
-pub overflow_add-c : goal.overflow_add-c
-overflow_add-c c = omega (arith, c.loop-c-test.true)
-
-pub loop-c-smaller : goal.loop-c-smaller
-loop-c-smaller c = omega (arith, c.loop-c-test.true)
-
 pub loop-c-preserved : goal.loop-c-preserved
-loop-c-preserved c = line_laid _ _ _ _ c.loop-c.invariant
-    c.loop-c-test.true c.put_column.ensures
+loop-c-preserved c = line_laid _ _ _ _ c.loop-c.invariant (omega arith) c.put_column.ensures
 
 pub shape_of-columns : goal.shape_of-columns
 shape_of-columns c = c.loop-c.invariant.len
 
 pub returns : goal.returns
-returns c = lines_laid _ _ _ _ c.loop-c.invariant c.loop-c-test.false
+returns c = lines_laid _ _ _ _ c.loop-c.invariant (omega arith)

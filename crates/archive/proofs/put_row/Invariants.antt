@@ -1,5 +1,5 @@
 -- `archive::put_row` meets its contract. Assumes nothing.
-use Rattle.std.proofs.Common.{◌-◌, ◌*◌}
+use Rattle.std.proofs.Common.{◌*◌}
 use Rattle.base.proofs.Copies.{Copying}
 use Rattle.tables.specs.Words.{row_words, row_count}
 use Rattle.archive.specs.Archive.{words_below, restored_word}
@@ -7,6 +7,3 @@ use Rattle.archive.proofs.put_row.Given as goal
 
 abbrev pub invariant-loop-c : goal.invariant-loop-c
 invariant-loop-c l = Copying (words_below (restored_word (row_count l.columns) l.columns l.i) row_words) l.initial.table (row_words * l.i) l.table l.c
-
-abbrev pub decreases-loop-c : goal.decreases-loop-c
-decreases-loop-c l = row_words - l.c

@@ -10,26 +10,17 @@ use Rattle.archive.proofs.put_rows.Goals as goal
 pub loop-i-init : goal.loop-i-init
 loop-i-init c = none_laid _ _ _ _
 
-pub put_row-requires-clause-i_bound : goal.put_row-requires-clause-i_bound
-put_row-requires-clause-i_bound c = let n = row_count c.args.columns.now in
-    let long = lines_length (restored_word n c.args.columns.now) row_words n in (omega (arith, c.loop-i-test.true), omega (arith, c.requires, c.loop-i.invariant.len))
-
 pub put_row-requires-clause-table_value : goal.put_row-requires-clause-table_value
-put_row-requires-clause-table_value c = let n = row_count c.args.columns.now in
-    let long = lines_length (restored_word n c.args.columns.now) row_words n in copied_front _ _ c.loop-i.invariant (omega (arith, c.requires, long))
-
-pub overflow_add-i : goal.overflow_add-i
-overflow_add-i c = omega (arith, c.loop-i-test.true)
-
-pub loop-i-smaller : goal.loop-i-smaller
-loop-i-smaller c = omega (arith, c.loop-i-test.true)
+put_row-requires-clause-table_value c =
+    let n = row_count c.args.columns.now in
+    let long = lines_length (restored_word n c.args.columns.now) row_words n in
+    copied_front _ _ c.loop-i.invariant (omega (arith, c.requires, long))
 
 pub loop-i-preserved : goal.loop-i-preserved
-loop-i-preserved c = line_laid _ _ _ _ c.loop-i.invariant
-    c.loop-i-test.true c.put_row.ensures
+loop-i-preserved c = line_laid _ _ _ _ c.loop-i.invariant (omega arith) c.put_row.ensures
 
 pub shape_of-table : goal.shape_of-table
 shape_of-table c = c.loop-i.invariant.len
 
 pub returns : goal.returns
-returns c = lines_laid _ _ _ _ c.loop-i.invariant c.loop-i-test.false
+returns c = lines_laid _ _ _ _ c.loop-i.invariant (omega arith)

@@ -1,8 +1,8 @@
 -- `entry::gabzeril_check_table` meets its contract. Assumes nothing.
 use mathlib.Core.Path.{ap, ◌∙◌}
 use Rattle.entry.specs.Interface.{answered}
-use Rattle.tables.specs.declared.Answer.{Answer}
+use Rattle.tables.specs.Answers.{Answer}
 use Rattle.entry.proofs.gabzeril_check_table.Goals as goal
 
 pub returns : goal.returns
-returns c = c.c_answer.ensures ∙ ap (λ (a : Answer). answered a) c.check_table.ensures
+returns c = c.into.ensures ∙ ap (λ (a : Answer). answered a) c.check_table.ensures

@@ -1,11 +1,11 @@
 -- `entry::gabzeril_read_pool` meets its contract. Assumes nothing.
 use mathlib.Core.Path.{ap, ◌∙◌}
 use Rattle.entry.specs.Interface.{answered}
-use Rattle.tables.specs.declared.Answer.{Answer}
+use Rattle.tables.specs.Answers.{Answer}
 use Rattle.entry.proofs.gabzeril_read_pool.Goals as goal
 
 pub returns-clause-answer : goal.returns-clause-answer
-returns-clause-answer c = c.c_answer.ensures ∙ ap (λ (a : Answer). answered a) c.read_pool.ensures.answer
+returns-clause-answer c = c.into.ensures ∙ ap (λ (a : Answer). answered a) c.read_pool.ensures.answer
 
 pub returns-clause-words : goal.returns-clause-words
 returns-clause-words c = c.read_pool.ensures.words

@@ -1,11 +1,11 @@
 -- `entry::gabzeril_set_verdicts` meets its contract. Assumes nothing.
 use mathlib.Core.Path.{ap, ◌∙◌}
 use Rattle.entry.specs.Interface.{answered}
-use Rattle.tables.specs.declared.Answer.{Answer}
+use Rattle.tables.specs.Answers.{Answer}
 use Rattle.entry.proofs.gabzeril_set_verdicts.Goals as goal
 
 pub returns-clause-answer : goal.returns-clause-answer
-returns-clause-answer c = c.c_answer.ensures ∙ ap (λ (a : Answer). answered a) c.set_verdicts.ensures.value
+returns-clause-answer c = c.into.ensures ∙ ap (λ (a : Answer). answered a) c.set_verdicts.ensures.value
 
 pub returns-clause-bytes : goal.returns-clause-bytes
 returns-clause-bytes c = c.set_verdicts.ensures.out_after

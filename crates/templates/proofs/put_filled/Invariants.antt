@@ -1,12 +1,5 @@
--- `templates::put_filled` meets its contract. Assumes nothing.
-use Prim.Native.Nat.{◌-◌}
-use lib.ListN.{length}
-use Rattle.base.proofs.Copies.{Copying}
-use Rattle.templates.specs.Templates.{filled}
+use Rattle.templates.proofs.Filling.{Put}
 use Rattle.templates.proofs.put_filled.Given as goal
 
-abbrev pub invariant-loop-j : goal.invariant-loop-j
-invariant-loop-j l = Copying (filled l.template l.parameters) l.initial.out 0 l.out l.j
-
-abbrev pub decreases-loop-j : goal.decreases-loop-j
-decreases-loop-j l = length l.template - l.j
+abbrev pub invariant-loop-i : goal.invariant-loop-i
+invariant-loop-i l = Put l.template l.parameters l.initial.out l.out l.i

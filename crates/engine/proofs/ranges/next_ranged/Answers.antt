@@ -1,27 +1,8 @@
 -- `engine::ranges::next_ranged` meets its contract. Assumes nothing.
-use mathlib.Core.Path.{refl, sym, ap, ◌∙◌}
-use native.Mathlib.Omega.{arith}
-use Rattle.engine.specs.Ready.{place_under}
-use Rattle.engine.proofs.Ranged.{place_named, place_inside, none_first, first_at_place}
+use borrow.Author.Rules.{rules}
+use Rattle.std.proofs.Common.{tests}
+use Rattle.base.proofs.Ranges.{found_by_find}
 use Rattle.engine.proofs.ranges.next_ranged.Goals as goal
 
-pub returns-then-under-eq0 : goal.returns-then-under-eq0
-returns-then-under-eq0 c = c.next_at.ensures
-    ∙ first_at_place c.args.pool.now c.args.b c.args.e 0 (sym (ap (place_under c.args.b.row) c.if-under-eq0.true))
-    (λ l z. l c.if-under-eq0.true) c.args.row c.args.rows _ refl
-
-pub overflow_add-result : goal.overflow_add-result
-overflow_add-result c = omega (arith, c.requires.b_le_nesting_limit.1)
-
-pub returns-then-place-eq0 : goal.returns-then-place-eq0
-returns-then-place-eq0 c = let place_is = place_named c.args.b.row c.args.e.b _ c.if-under-eq0.false c.place_of-place.ensures in
-    none_first c.args.pool.now c.args.b c.args.e _ place_is c.if-under-eq0.false c.if-place-eq0.true c.args.row c.args.rows
-
-pub next_at-requires-2 : goal.next_at-requires-2
-next_at-requires-2 c = let place_is = place_named c.args.b.row c.args.e.b _ c.if-under-eq0.false c.place_of-place.ensures in
-    (place_inside c.args.pool.now c.args.b c.requires.placed c.args.e.b _ place_is, c.requires.b_le_nesting_limit.1)
-
 pub returns : goal.returns
-returns c = let place_is = place_named c.args.b.row c.args.e.b _ c.if-under-eq0.false c.place_of-place.ensures in
-    c.next_at-2.ensures
-    ∙ first_at_place c.args.pool.now c.args.b c.args.e _ place_is (λ l. c.if-place-eq0.false) c.args.row c.args.rows _ refl
+returns c = found_by_find _ _ _ _ _ c.find.ensures.ran (λ x b q k. search (rules, tests))

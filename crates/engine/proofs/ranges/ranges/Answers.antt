@@ -1,22 +1,16 @@
 -- `engine::ranges::ranges` meets its contract. Assumes nothing.
-use mathlib.Core.Path.{sym, ap, ◌∙◌}
-use Rattle.engine.specs.Ready.{place_under}
-use Rattle.engine.proofs.Ranged.{place_named, place_inside, none_ranged, at_place}
+use mathlib.Core.Path.{◌∙◌}
+use Rattle.engine.proofs.Bound.{row_none, row_some}
+use Rattle.engine.proofs.Ranged.{over_root, under_nothing, under_row}
+use Rattle.engine.proofs.ranges.ranges.Goals.{in-Roots, in-Under+in-None, in-Under+in-Some}
 use Rattle.engine.proofs.ranges.ranges.Goals as goal
 
-pub returns-then-under-eq0 : goal.returns-then-under-eq0
-returns-then-under-eq0 c = c.ranged.ensures
-    ∙ at_place c.args.pool.now c.args.b c.args.e 0 (sym (ap (place_under c.args.b.row) c.if-under-eq0.true))
-    (λ l z. l c.if-under-eq0.true) c.args.row
-
-pub returns-then-place-eq0 : goal.returns-then-place-eq0
-returns-then-place-eq0 c = let place_is = place_named c.args.b.row c.args.e.b _ c.if-under-eq0.false c.place_of-place.ensures in
-    none_ranged c.args.pool.now c.args.b c.args.e _ place_is c.if-under-eq0.false c.if-place-eq0.true _
-
-pub ranged-requires-2 : goal.ranged-requires-2
-ranged-requires-2 c = let place_is = place_named c.args.b.row c.args.e.b _ c.if-under-eq0.false c.place_of-place.ensures in
-    (place_inside c.args.pool.now c.args.b c.requires.placed c.args.e.b _ place_is, c.requires.b_le_nesting_limit.1)
-
 pub returns : goal.returns
-returns c = let place_is = place_named c.args.b.row c.args.e.b _ c.if-under-eq0.false c.place_of-place.ensures in
-    c.ranged-2.ensures ∙ at_place c.args.pool.now c.args.b c.args.e _ place_is (λ l. c.if-place-eq0.false) c.args.row
+returns c =
+    elim c.match-q.branch [
+      | in-Roots w ↦ over_root _ c.args.b c.args.q.now c.args.row _ c.row_at-r.ensures _ _ c.is_named.ensures w.in-Roots.is w.hangs-is
+      | in-Under+in-None w ↦ under_nothing _ c.args.b c.args.q.now c.args.row _ c.row_at-r.ensures _ _ c.is_named.ensures w.in-Under.variable w.in-Under.is
+          (row_none _ w.row_of.ensures w.in-None.is) w.hangs-is
+      | in-Under+in-Some w ↦ under_row _ c.args.b c.args.q.now c.args.row _ c.row_at-r.ensures _ _ c.is_named.ensures w.in-Under.variable w.in-Under.is
+          w.in-Some.parent (row_some _ w.row_of.ensures w.in-Some.is) _ w.row_at.ensures (w.hangs-is ∙ w.is_parent.ensures)
+    ]

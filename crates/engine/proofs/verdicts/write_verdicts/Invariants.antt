@@ -1,11 +1,7 @@
--- `engine::verdicts::write_verdicts` meets its contract. The loop's invariant: what is left to write is that of the rules left. Assumes nothing.
-use Prim.Native.Nat.{◌-◌}
-use lib.ListN.{length}
+-- The loop's invariant: what is left to write is that of the rules left. Assumes nothing.
+use Rattle.sets.specs.Sets.{rules_of}
 use Rattle.engine.proofs.SetBytes.{Writes}
 use Rattle.engine.proofs.verdicts.write_verdicts.Given as goal
 
 abbrev pub invariant-loop-i : goal.invariant-loop-i
-invariant-loop-i l = Writes l.rules l.counts l.pool l.asked l.initial.out l.out l.i l.before
-
-abbrev pub decreases-loop-i : goal.decreases-loop-i
-decreases-loop-i l = length l.counts - l.i
+invariant-loop-i g l = Writes l.set.rules.now l.set.counts.now l.fn.pool l.initial.out l.out l.i (rules_of l.rule-iterator.rules.now l.rule-iterator.counts.now)

@@ -1,10 +1,8 @@
 -- `folding::writing::put_left` meets its contract. Assumes nothing.
-use Prim.Native.Nat.{◌-◌}
+use Rattle.tables.specs.Words.{row_count}
+use Rattle.folding.specs.Passing.{intos, ups}
 use Rattle.folding.proofs.Left.{Written}
 use Rattle.folding.proofs.writing.put_left.Given as goal
 
 abbrev pub invariant-loop-i : goal.invariant-loop-i
-invariant-loop-i l = Written l.table l.into l.ups l.initial.out l.n l.out l.at l.i
-
-abbrev pub decreases-loop-i : goal.decreases-loop-i
-decreases-loop-i l = l.n - l.i
+invariant-loop-i l = Written l.table (intos l.moves) (ups l.moves) l.initial.out (row_count l.table) l.out l.at l.i

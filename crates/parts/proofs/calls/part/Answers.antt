@@ -1,13 +1,26 @@
 -- `parts::calls::part` meets its contract. Assumes nothing.
-use mathlib.Core.Path.{◌∙◌}
-use Rattle.parts.proofs.Answered.{one_vouched, one_answer, one_words}
+use mathlib.Core.Path.{◌≡◌, sym, ◌∙◌}
+use native.Mathlib.Omega.{arith}
+use Rattle.std.proofs.Common.{rules, Err}
+use Rattle.parts.proofs.Answered as laws
 use Rattle.parts.proofs.calls.part.Goals as goal
 
-pub send_chosen-requires : goal.send_chosen-requires
-send_chosen-requires c = one_vouched c.args.rule.now c.own_count.ensures c.check_rule.ensures
+pub overflow_cast-counts : goal.overflow_cast-counts
+overflow_cast-counts c = let l = laws.count_few c.args.rule.now (sym c.in_ok-check_rule.was ∙ c.check_rule.ensures) in omega arith
+
+pub invariant_of-set : goal.invariant_of-set
+invariant_of-set c = record { accepted = laws.one_accepted c.args.rule.now (sym c.in_ok-check_rule.was ∙ c.check_rule.ensures) }
+
+pub returns-in_err-check_rule-clause-answer : goal.returns-in_err-check_rule-clause-answer
+returns-in_err-check_rule-clause-answer c =
+    let e : c.from_residual.result ≡ Err c.in_err-check_rule.field-0.0 = search rules in
+    e ∙ laws.rules_refused _ _ c.args.table.now c.args.mode (sym c.check_rule.ensures ∙ c.in_err-check_rule.was) _
+
+pub returns-in_err-check_rule-clause-words : goal.returns-in_err-check_rule-clause-words
+returns-in_err-check_rule-clause-words c = laws.refused_out _ _ c.args.table.now c.args.mode (sym c.check_rule.ensures ∙ c.in_err-check_rule.was) c.args.out.now
 
 pub returns-clause-answer : goal.returns-clause-answer
-returns-clause-answer c = c.send_chosen.ensures.answer ∙ one_answer c.args.rule.now c.own_count.ensures c.check_rule.ensures _ _ _
+returns-clause-answer c = c.send_chosen.ensures.answer ∙ laws.one_answer c.args.rule.now (sym c.in_ok-check_rule.was ∙ c.check_rule.ensures) c.args.table.now c.args.mode _
 
 pub returns-clause-words : goal.returns-clause-words
-returns-clause-words c = c.send_chosen.ensures.words ∙ one_words c.args.rule.now c.own_count.ensures c.check_rule.ensures _ _ _
+returns-clause-words c = c.send_chosen.ensures.words ∙ laws.one_words c.args.rule.now (sym c.in_ok-check_rule.was ∙ c.check_rule.ensures) c.args.table.now c.args.mode c.args.out.now

@@ -1,25 +1,26 @@
 -- `parts::calls::send_chosen` meets its contract. Assumes nothing.
-use mathlib.Core.Path.{sym, ◌∙◌}
-use Rattle.parts.proofs.Answered.{words_fit, out_kept, out_written}
+use mathlib.Core.Path.{◌≡◌, ◌∙◌}
+use Rattle.std.proofs.Common.{rules, Err}
+use Rattle.logic.specs.Formulas.{formulas_of}
+use Rattle.parts.proofs.Answered as laws
 use Rattle.parts.proofs.calls.send_chosen.Goals as goal
 
-pub choose-choice-requires : goal.choose-choice-requires
-choose-choice-requires c = c.requires
+pub send-requires-clause-rows : goal.send-requires-clause-rows
+send-requires-clause-rows c = (laws.words_fit (formulas_of c.args.set.now.rules.now c.args.set.now.counts.now) c.args.table.now c.args.mode c.args.out.now c.in_ok-count.ensures.answer c.in_ok-count.ensures.marks).0
 
-pub send-requires-clause-table_in_bounds : goal.send-requires-clause-table_in_bounds
-send-requires-clause-table_in_bounds c = (words_fit _ _ _ _ c.args.out.now c.choose-choice.result c.choose-choice.ensures _ c.in-Done.is).0
+pub send-requires-clause-room : goal.send-requires-clause-room
+send-requires-clause-room c = (laws.words_fit (formulas_of c.args.set.now.rules.now c.args.set.now.counts.now) c.args.table.now c.args.mode c.args.out.now c.in_ok-count.ensures.answer c.in_ok-count.ensures.marks).1
 
-pub send-requires-clause-table_in_bounds_2 : goal.send-requires-clause-table_in_bounds_2
-send-requires-clause-table_in_bounds_2 c = (words_fit _ _ _ _ c.args.out.now c.choose-choice.result c.choose-choice.ensures _ c.in-Done.is).1
+pub returns-in_err-count-clause-answer : goal.returns-in_err-count-clause-answer
+returns-in_err-count-clause-answer c =
+    let e : c.from_residual.result ≡ Err c.in_err-count.field-0.0 = search rules in
+    e ∙ c.in_err-count.ensures.answer
 
-pub returns-in-Refused-clause-answer : goal.returns-in-Refused-clause-answer
-returns-in-Refused-clause-answer c = sym c.in-Refused.is ∙ c.choose-choice.ensures.answer
+pub returns-in_err-count-clause-words : goal.returns-in_err-count-clause-words
+returns-in_err-count-clause-words c = laws.out_kept (formulas_of c.args.set.now.rules.now c.args.set.now.counts.now) c.args.table.now c.args.mode c.args.out.now c.in_err-count.ensures.answer
 
-pub returns-in-Refused-clause-words : goal.returns-in-Refused-clause-words
-returns-in-Refused-clause-words c = out_kept _ _ _ _ c.args.out.now _ _ (sym c.in-Refused.is ∙ c.choose-choice.ensures.answer)
+pub returns-clause-answer : goal.returns-clause-answer
+returns-clause-answer c = c.in_ok-count.ensures.answer
 
-pub returns-in-Done-clause-answer : goal.returns-in-Done-clause-answer
-returns-in-Done-clause-answer c = sym c.in-Done.is ∙ c.choose-choice.ensures.answer
-
-pub returns-in-Done-clause-words : goal.returns-in-Done-clause-words
-returns-in-Done-clause-words c = out_written _ _ _ _ c.args.out.now c.choose-choice.result c.choose-choice.ensures _ c.in-Done.is _ c.send.ensures
+pub returns-clause-words : goal.returns-clause-words
+returns-clause-words c = laws.out_written (formulas_of c.args.set.now.rules.now c.args.set.now.counts.now) c.args.table.now c.args.mode c.args.out.now c.in_ok-count.ensures.answer c.in_ok-count.ensures.marks c.send.ensures

@@ -1,20 +1,31 @@
 -- `plans::changing::apply` meets its contract. Assumes nothing.
-use Rattle.plans.proofs.Splices.{step_placed, apply_done, apply_refused}
+use Rattle.std.proofs.Common.{rules, sym, ◌∙◌}
+use Rattle.plans.proofs.Splices.{no_step, place_read, step_done, row_done, after_done, step_placed}
 use Rattle.plans.proofs.changing.apply.Goals as goal
 
+pub returns-in_default-clause-change : goal.returns-in_default-clause-change
+returns-in_default-clause-change c = rw (no_step c.args.table.now c.args.step.now c.in_default.ensures) (cc)
+
+pub returns-in_default-clause-words : goal.returns-in_default-clause-words
+returns-in_default-clause-words c = rw (no_step c.args.table.now c.args.step.now c.in_default.ensures)
+
+pub returns-in_err-row-clause-change : goal.returns-in_err-row-clause-change
+returns-in_err-row-clause-change c = rw (place_read c.args.table.now c.args.step.now c.in-Some.ensures ∙ sym c.in_err-row.ensures) (search rules)
+
+pub returns-in_err-row-clause-words : goal.returns-in_err-row-clause-words
+returns-in_err-row-clause-words c = rw (place_read c.args.table.now c.args.step.now c.in-Some.ensures ∙ sym c.in_err-row.ensures)
+
 pub put_step-requires : goal.put_step-requires
-put_step-requires c = step_placed c.args.table.now c.args.step.now c.step_place-found.ensures c.args.out.now c.in-Done.is
+put_step-requires c = step_placed c.args.table.now c.args.step.now c.in-Some.ensures (sym c.in_ok-row.ensures)
 
-pub returns-in-Done-clause-change : goal.returns-in-Done-clause-change
-returns-in-Done-clause-change c = (apply_done c.args.table.now c.args.step.now c.step_place-found.ensures c.args.out.now c.in-Done.is
-    c.put_step.ensures.value c.put_step.ensures.out_after).0
+pub returns-in_err-words-clause-change : goal.returns-in_err-words-clause-change
+returns-in_err-words-clause-change c = rw (step_done c.args.table.now c.args.step.now c.in-Some.ensures (sym c.in_ok-row.ensures), after_done c.args.table.now c.args.step.now c.in-Some.ensures (sym c.in_ok-row.ensures), sym c.in_err-words.ensures.value) (search rules)
 
-pub returns-in-Done-clause-words : goal.returns-in-Done-clause-words
-returns-in-Done-clause-words c = (apply_done c.args.table.now c.args.step.now c.step_place-found.ensures c.args.out.now c.in-Done.is
-    c.put_step.ensures.value c.put_step.ensures.out_after).1
+pub returns-in_err-words-clause-words : goal.returns-in_err-words-clause-words
+returns-in_err-words-clause-words c = rw (step_done c.args.table.now c.args.step.now c.in-Some.ensures (sym c.in_ok-row.ensures), after_done c.args.table.now c.args.step.now c.in-Some.ensures (sym c.in_ok-row.ensures), sym c.in_err-words.ensures.value) c.in_err-words.ensures.out_after
 
-pub returns-in-Refused-clause-change : goal.returns-in-Refused-clause-change
-returns-in-Refused-clause-change c = (apply_refused c.args.table.now c.args.step.now c.step_place-found.ensures c.args.out.now c.in-Refused.is).0
+pub returns-clause-change : goal.returns-clause-change
+returns-clause-change c = rw (step_done c.args.table.now c.args.step.now c.in-Some.ensures (sym c.in_ok-row.ensures), row_done c.args.table.now c.args.step.now c.in-Some.ensures (sym c.in_ok-row.ensures), after_done c.args.table.now c.args.step.now c.in-Some.ensures (sym c.in_ok-row.ensures), sym c.in_ok-words.ensures.value)
 
-pub returns-in-Refused-clause-words : goal.returns-in-Refused-clause-words
-returns-in-Refused-clause-words c = (apply_refused c.args.table.now c.args.step.now c.step_place-found.ensures c.args.out.now c.in-Refused.is).1
+pub returns-clause-words : goal.returns-clause-words
+returns-clause-words c = rw (step_done c.args.table.now c.args.step.now c.in-Some.ensures (sym c.in_ok-row.ensures), after_done c.args.table.now c.args.step.now c.in-Some.ensures (sym c.in_ok-row.ensures), sym c.in_ok-words.ensures.value) c.in_ok-words.ensures.out_after

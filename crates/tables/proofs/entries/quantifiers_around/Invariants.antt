@@ -4,6 +4,3 @@ use Rattle.tables.proofs.entries.quantifiers_around.Given as goal
 
 abbrev pub invariant-loop-i : goal.invariant-loop-i
 invariant-loop-i l = Climbs l.rule l.j l.count l.inner l.i
-
-abbrev pub decreases-loop-i : goal.decreases-loop-i
-decreases-loop-i l = l.i

@@ -9,17 +9,8 @@ use Rattle.tables.proofs.entries.times_named.Goals as goal
 pub loop-i-init : goal.loop-i-init
 loop-i-init c = sum_begin _ _ _
 
-pub entry_at-requires : goal.entry_at-requires
-entry_at-requires c = omega (arith, c.loop-i-test.true)
-
 pub overflow_add-sum : goal.overflow_add-sum
-overflow_add-sum c = omega (arith, c.loop-i-test.true, c.loop-i.invariant.small)
-
-pub overflow_add-i : goal.overflow_add-i
-overflow_add-i c = omega (arith, c.loop-i-test.true)
-
-pub loop-i-smaller : goal.loop-i-smaller
-loop-i-smaller c = omega (arith, c.loop-i-test.true)
+overflow_add-sum c = omega (arith, c.loop-i.invariant.small)
 
 pub loop-i-preserved : goal.loop-i-preserved
 loop-i-preserved c = sum_more _ _ _ _ _ c.loop-i.invariant c.loop-i-test.true _

@@ -2,5 +2,6 @@
 use Rattle.tables.specs.Links.{place_hash}
 use Rattle.tables.proofs.parents.place_hash.Goals as goal
 
-pub returns : goal.returns
-returns c = unfold place_hash in c.hash_of.ensures
+pub returns-clause-value : goal.returns-clause-value
+unfolding place_hash
+returns-clause-value c = c.hash_of.ensures.value

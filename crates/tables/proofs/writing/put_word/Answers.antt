@@ -1,43 +1,28 @@
 -- `tables::writing::put_word` meets its contract, by the laws of proofs/Writes.antt. Assumes nothing.
 use mathlib.Core.Path.{ap, ◌∙◌}
-use lib.ListN.{length, length-set}
-use Rattle.tables.proofs.Writes.{sign_below, sign_text, sign_length, sign_put, plain_text}
-use Prim.Native.Nat.{◌+◌, ◌-◌}
+use native.Mathlib.Numerals.{add-one}
 use native.Mathlib.Omega.{arith}
+use lib.ListN.{length, length-set}
+use Rattle.tables.proofs.Writes.{below_text, plain_text}
 use Rattle.tables.proofs.writing.put_word.Goals as goal
 
 pub bounds-out-at : goal.bounds-out-at
-bounds-out-at c = omega (arith, c.requires, ap length (sign_text c.args.signed c.args.w c.if-below.true))
-
-pub overflow_add-at : goal.overflow_add-at
-overflow_add-at c = omega (arith, c.requires, ap length (sign_text c.args.signed c.args.w c.if-below.true))
-
-pub overflow_sub-w : goal.overflow_sub-w
-overflow_sub-w c = omega arith
-
-pub overflow_add-w : goal.overflow_add-w
-overflow_add-w c = omega (arith, sign_below c.args.signed c.args.w c.if-below.true)
+bounds-out-at c = omega (arith, c.requires, ap length (below_text c.args.signed c.args.w _ c.in-Some.ensures))
 
 pub put_number-requires : goal.put_number-requires
-put_number-requires c = let below = sign_below c.args.signed c.args.w c.if-below.true in
-    rw length-set (omega (arith, c.requires, sign_length c.args.signed c.args.w c.if-below.true (4294967295 - c.args.w + 1) (omega (arith, below))))
+put_number-requires c = rw length-set (omega (arith, c.requires, ap length (below_text c.args.signed c.args.w _ c.in-Some.ensures)))
 
-pub shape_of-out-then-below : goal.shape_of-out-then-below
-shape_of-out-then-below c = c.put_number.auto.out ∙ length-set c.args.out.now c.args.at 45
+pub put_number-requires-in-None : goal.put_number-requires-in-None
+put_number-requires-in-None c = rw (plain_text c.args.signed c.args.w c.in-None.ensures) at c.requires
 
-pub returns-then-below-clause-place : goal.returns-then-below-clause-place
-returns-then-below-clause-place c = let below = sign_below c.args.signed c.args.w c.if-below.true in
-    let whole = sign_length c.args.signed c.args.w c.if-below.true (4294967295 - c.args.w + 1) (omega (arith, below)) in omega (arith, c.put_number.ensures.place, whole)
+pub returns-in-Some-clause-place : goal.returns-in-Some-clause-place
+returns-in-Some-clause-place c = omega (arith, c.put_number.ensures.place, ap length (below_text c.args.signed c.args.w _ c.in-Some.ensures))
 
-pub returns-then-below-clause-bytes : goal.returns-then-below-clause-bytes
-returns-then-below-clause-bytes c = let below = sign_below c.args.signed c.args.w c.if-below.true in
-    let whole = sign_length c.args.signed c.args.w c.if-below.true (4294967295 - c.args.w + 1) (omega (arith, below)) in c.put_number.ensures.bytes ∙ sign_put _ _ c.if-below.true _ _ _ (omega (arith, below))
+pub returns-in-Some-clause-bytes : goal.returns-in-Some-clause-bytes
+returns-in-Some-clause-bytes c = rw (below_text c.args.signed c.args.w _ c.in-Some.ensures) (c.put_number.ensures.bytes ∙ rw add-one)
 
-pub put_number-requires-2 : goal.put_number-requires-2
-put_number-requires-2 c = rw (plain_text c.args.signed c.args.w c.if-below.false) at c.requires
+pub returns-in-None-clause-place : goal.returns-in-None-clause-place
+returns-in-None-clause-place c = rw (plain_text c.args.signed c.args.w c.in-None.ensures) c.put_number-in-None.ensures.place
 
-pub returns-clause-place : goal.returns-clause-place
-returns-clause-place c = rw (plain_text c.args.signed c.args.w c.if-below.false) c.put_number-2.ensures.place
-
-pub returns-clause-bytes : goal.returns-clause-bytes
-returns-clause-bytes c = rw (plain_text c.args.signed c.args.w c.if-below.false) c.put_number-2.ensures.bytes
+pub returns-in-None-clause-bytes : goal.returns-in-None-clause-bytes
+returns-in-None-clause-bytes c = rw (plain_text c.args.signed c.args.w c.in-None.ensures) c.put_number-in-None.ensures.bytes

@@ -7,24 +7,11 @@ pub loop-n-init : goal.loop-n-init
 loop-n-init c = width_begin _ (omega arith)
 
 pub returns-then-w-power : goal.returns-then-w-power
-returns-then-w-power c = (
-  omega (
-    arith,
-    width_found _ (omega arith) _ _ c.loop-n.invariant c.loop-n-test.true c.power.ensures
-        (omega (arith, c.if-w-power.true)),
-  ),
-  omega (arith, c.loop-n.invariant.high),
-)
-
-pub overflow_add-n : goal.overflow_add-n
-overflow_add-n c = omega arith
-
-pub loop-n-smaller : goal.loop-n-smaller
-loop-n-smaller c = omega arith
+returns-then-w-power c =
+    (width_found _ (omega arith) _ _ c.loop-n.invariant c.loop-n-test.true c.power.ensures c.if-w-power.true, c.loop-n.invariant.high)
 
 pub loop-n-preserved : goal.loop-n-preserved
-loop-n-preserved c = width_more _ (omega arith) _ _ c.loop-n.invariant c.loop-n-test.true c.power.ensures
-    (omega (arith, c.if-w-power.false))
+loop-n-preserved c = width_more _ (omega arith) _ _ c.loop-n.invariant c.loop-n-test.true c.power.ensures c.if-w-power.false
 
 pub returns : goal.returns
-returns c = (width_end _ (omega arith) _ c.loop-n.invariant c.loop-n-test.false, c.loop-n.invariant.high)
+returns c = omega (arith, c.loop-n.invariant.high, width_end _ (omega arith) _ c.loop-n.invariant c.loop-n-test.false)

@@ -1,0 +1,7 @@
+-- The counts as the code holds them. Assumes nothing.
+use Rattle.std.specs.Prelude.{ℕ, List, [], ◌∷◌}
+use Rattle.checker.specs.declared.counting.Counts.{Counts}
+
+-- in the order in which they are printed
+abbrev pub words_of : Counts → List ℕ
+words_of c = c.verdict ∷ c.rows ∷ c.branch ∷ c.full ∷ c.marks ∷ []
