@@ -9,20 +9,20 @@ use lib.ListN.{length, get_or, set, take, drop, length-set, length-drop, take-ap
 use lib.Seq.{sets, sets-eq, length-sets, length-take-le, take-set-le, take-append-le, drop-cons, drop-drop}
 
 -- ---- runs of stores
-pub sets_append : (l : List ℕ) (i : ℕ) (a b : List ℕ) → sets l i (a ++ b) ≡ sets (sets l i a) (i + length a) b
+pub sets_append : {X : Type 0} (l : List X) (i : ℕ) (a b : List X) → sets l i (a ++ b) ≡ sets (sets l i a) (i + length a) b
 sets_append l i [] b = ap (λ (n : ℕ). sets l n b) (sym (add-zero i))
 sets_append l i (x ∷ a) b = sets_append (set l i x) (suc i) a b ∙ ap (λ (n : ℕ). sets (sets (set l i x) (suc i) a) n b) (omega arith)
 
 -- what stands before a run of stores stays
-pub sets_before : (l : List ℕ) (i : ℕ) (vs : List ℕ) (n : ℕ) → n ≤ i → take n (sets l i vs) ≡ take n l
+pub sets_before : {X : Type 0} (l : List X) (i : ℕ) (vs : List X) (n : ℕ) → n ≤ i → take n (sets l i vs) ≡ take n l
 sets_before l i [] n h = refl
 sets_before l i (x ∷ vs) n h = sets_before (set l i x) (suc i) vs n (omega arith) ∙ take-set-le n l i x h
 
 -- ---- the loop
 
-module _ (h out₀ : List ℕ) (at : ℕ) where
+module _ {X : Type 0} (h out₀ : List X) (at : ℕ) where
   -- i elements are copied
-  pub record Copying (out : List ℕ) (i : ℕ) : Type 0 where
+  pub record Copying (out : List X) (i : ℕ) : Type 0 where
     pub within : i ≤ length h
     pub len : length out ≡ length out₀
     pub rest : sets out₀ at h ≡ sets out (at + i) (drop i h)
@@ -30,20 +30,21 @@ module _ (h out₀ : List ℕ) (at : ℕ) where
   pub copy_begin : Copying out₀ 0
   copy_begin = record { within = omega arith; len = refl; rest = ap (λ (n : ℕ). sets out₀ n h) (omega arith) }
 
-  pub copy_more : (out : List ℕ) (i : ℕ) → Copying out i → i < length h → Copying (set out (at + i) (get_or h i 0)) (i + 1)
-  copy_more out i t l =
+  -- d is what a reading past the end would give
+  pub copy_next : (d : X) (out : List X) (i : ℕ) → Copying out i → i < length h → Copying (set out (at + i) (get_or h i d)) (i + 1)
+  copy_next d out i t l =
       let e : suc (at + i) ≡ at + (i + 1) = omega arith in
       record {
         within = omega arith;
-        len = length-set out (at + i) (get_or h i 0) ∙ t.len;
+        len = length-set out (at + i) (get_or h i d) ∙ t.len;
         rest = t.rest
-            ∙ ap (sets out (at + i)) (drop-cons h i 0 l)
-            ∙ ap (λ (n : ℕ). sets (set out (at + i) (get_or h i 0)) n (drop (suc i) h)) e
-            ∙ ap (λ (n : ℕ). sets (set out (at + i) (get_or h i 0)) (at + (i + 1)) (drop n h)) (sym (add-one i));
+            ∙ ap (sets out (at + i)) (drop-cons h i d l)
+            ∙ ap (λ (n : ℕ). sets (set out (at + i) (get_or h i d)) n (drop (suc i) h)) e
+            ∙ ap (λ (n : ℕ). sets (set out (at + i) (get_or h i d)) (at + (i + 1)) (drop n h)) (sym (add-one i));
       }
 
   -- a run of n elements
-  pub copy_run : {out out' : List ℕ} {i : ℕ} (n : ℕ) → Copying out i → i + n ≤ length h → out' ≡ sets out (at + i) (take n (drop i h))
+  pub copy_run : {out out' : List X} {i : ℕ} (n : ℕ) → Copying out i → i + n ≤ length h → out' ≡ sets out (at + i) (take n (drop i h))
       → Copying out' (i + n)
   copy_run {out} {out'} {i} n t l o_is =
       let run = take n (drop i h) in
@@ -55,20 +56,25 @@ module _ (h out₀ : List ℕ) (at : ℕ) where
         rest = t.rest
             ∙ ap (sets out (at + i)) (sym (take-append-drop n (drop i h)))
             ∙ sets_append out (at + i) run (drop n (drop i h))
-            ∙ ap₂ (λ (o : List ℕ) (m : ℕ). sets o m (drop n (drop i h))) (sym o_is) next
+            ∙ ap₂ (λ (o : List X) (m : ℕ). sets o m (drop n (drop i h))) (sym o_is) next
             ∙ ap (sets out' (at + (i + n))) (drop-drop n i h);
       }
 
   -- what stands before the place stays
-  pub copy_before : {out : List ℕ} {i : ℕ} → Copying out i → take at out ≡ take at out₀
+  pub copy_before : {out : List X} {i : ℕ} → Copying out i → take at out ≡ take at out₀
   copy_before {out} {i} t =
       sym (sets_before out (at + i) (drop i h) at (omega arith)) ∙ ap (take at) (sym t.rest) ∙ sets_before out₀ at h at (omega arith)
 
-  pub copy_end : (out : List ℕ) (i : ℕ) → Copying out i → length h ≤ i → out ≡ sets out₀ at h
+  pub copy_end : (out : List X) (i : ℕ) → Copying out i → length h ≤ i → out ≡ sets out₀ at h
   copy_end out i t l = sym (t.rest ∙ ap (sets out (at + i)) (drop_of_length-le h l))
 
+-- numbers are read with 0 past the end
+pub copy_more : (h out₀ : List ℕ) (at : ℕ) (out : List ℕ) (i : ℕ) → Copying h out₀ at out i → i < length h
+    → Copying h out₀ at (set out (at + i) (get_or h i 0)) (i + 1)
+copy_more h out₀ at = copy_next h out₀ at 0
+
 -- what is copied to the front stands there
-pub copied_front : (h out₀ : List ℕ) {out : List ℕ} {i : ℕ} → Copying h out₀ 0 out i → length h ≤ length out₀ → take i out ≡ take i h
+pub copied_front : {X : Type 0} (h out₀ : List X) {out : List X} {i : ℕ} → Copying h out₀ 0 out i → length h ≤ length out₀ → take i out ≡ take i h
 copied_front h out₀ {out} {i} t room =
     let l : i ≤ length h = t.within in
     let z : 0 + i ≡ i = omega arith in

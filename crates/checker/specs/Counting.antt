@@ -1,4 +1,4 @@
--- The counts as the code holds them. Assumes nothing.
+-- The counts as the code holds them; cited by private contracts alone. Assumes nothing.
 use Rattle.std.specs.Prelude.{ℕ, List, [], ◌∷◌}
 use Rattle.checker.specs.declared.counting.Counts.{Counts}
 

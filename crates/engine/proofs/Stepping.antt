@@ -21,6 +21,7 @@ use Rattle.sets.specs.Sets.{set_limit, rule_at, accepted_set}
 use Rattle.sets.proofs.Sets.{counts_fit_lem, set_few}
 use Rattle.plans.specs.Plans.{change_with, step_words, is_step, kind_of, step_row, place_for, step_place, table_after, change_answer, changed, change_out}
 use Rattle.plans.specs.declared.Change.{Change}
+use Rattle.plans.specs.declared.RefusedStep.{RefusedStep}
 use Rattle.plans.proofs.Splices.{passed_place, passed_words, passed_kind}
 use Rattle.plans.proofs.Changes.{row_there, place_after, after_long, remove_adds_none}
 use Rattle.logic.specs.Formulas.{formula, formulas_of}
@@ -136,18 +137,18 @@ module _ (rules counts pool bytes : List ℕ) where
         sym (get_or-take (length counts) bytes' i 0 h) ∙ ap (λ (vs : List ℕ). get_or vs i 0) bytes_are ∙ verdict_byte rules counts (rows pool) i h
 
 -- ---- a change and the answer in it
-refused_change : (row : ℕ) (a : Answer) {r : Refusal} → change_with row a ≡ Err r → a ≡ Err r
+refused_change : (row : ℕ) (a : Answer) {r : RefusedStep} → change_with row a ≡ Err r → a ≡ Err r.refusal
 refused_change row (Done words) e = absurd (true≢false (ap is_ok e))
 refused_change row (Err q) e = ap Err (ap refusal e)
   where
-    refusal : Result Change Refusal → Refusal
+    refusal : Result Change RefusedStep → Refusal
     refusal (Ok c) = q
-    refusal (Err r) = r
+    refusal (Err r) = r.refusal
 
 done_change : (row : ℕ) (a : Answer) {c : Change} → change_with row a ≡ Ok c → (a ≡ Done c.words) × (row ≡ c.row)
 done_change row (Done words) {c} e = (ap Done (ap (λ (x : Change). x.words) (ap change e)), ap (λ (x : Change). x.row) (ap change e))
   where
-    change : Result Change Refusal → Change
+    change : Result Change RefusedStep → Change
     change (Ok x) = x
     change (Err r) = c
 done_change row (Err q) e = absurd (true≢false (sym (ap is_ok e)))
@@ -190,12 +191,12 @@ module _ (rules counts : List ℕ) (set_ok : accepted_set rules counts ≡ true)
           ap (λ (b : Bool). unless b ShortOutput (Done (length (table_after t s)))) (le-leb (length (table_after t s)) next_words (next_room (ap is_done e)))
       go (Err r) e = refl
 
-  module _ {change : Result Change Refusal} (change_of : change ≡ changed t s next_words) where
+  module _ {change : Result Change RefusedStep} (change_of : change ≡ changed t s next_words) where
     abbrev whole_answer : Answer
     whole_answer = and_then (step_place t s) (Done (length (table_after t s)))
 
-    change_with_is : change ≡ change_with (place_for t (step_row s)) whole_answer
-    change_with_is = change_of ∙ ap (change_with (place_for t (step_row s))) change_is
+    change_with_is : change ≡ change_with (value (step_place t s)) whole_answer
+    change_with_is = change_of ∙ ap (change_with (value (step_place t s))) change_is
 
     -- what a refused step leaves
     refused_by : {a : Answer} → a ≡ answer_of → is_done a ≡ false → Taken rules counts k words s table bytes verdicts a table bytes verdicts
@@ -209,14 +210,14 @@ module _ (rules counts : List ℕ) (set_ok : accepted_set rules counts ≡ true)
     }
 
     -- 23 to 25
-    pub step_refused : {r : Refusal} → change ≡ Err r → Taken rules counts k words s table bytes verdicts (Refused r.fault k) table bytes verdicts
+    pub step_refused : {r : RefusedStep} → change ≡ Err r → Taken rules counts k words s table bytes verdicts (Refused r.refusal.fault k) table bytes verdicts
     unfolding step_answer
     step_refused {r} e = refused_by (ap (λ (a : Answer). and_then (at_step k (and_then a behind_25)) (Done (length (table_after t s)))) (sym place_is)) refl
       where
-        place_is : step_place t s ≡ Err r
+        place_is : step_place t s ≡ Err r.refusal
         place_is = first_refused (step_place t s) (refused_change _ whole_answer (sym change_with_is ∙ e))
           where
-            first_refused : (a : Answer) → and_then a (Done (length (table_after t s))) ≡ Err r → a ≡ Err r
+            first_refused : (a : Answer) → and_then a (Done (length (table_after t s))) ≡ Err r.refusal → a ≡ Err r.refusal
             first_refused (Done q) h = absurd (true≢false (ap is_done h))
             first_refused (Err q) h = h
 
@@ -224,7 +225,7 @@ module _ (rules counts : List ℕ) (set_ok : accepted_set rules counts ≡ true)
       abbrev long : ℕ
       long = done.words
 
-      found_is : (whole_answer ≡ Done long) × (place_for t (step_row s) ≡ done.row)
+      found_is : (whole_answer ≡ Done long) × (value (step_place t s) ≡ done.row)
       found_is = done_change _ whole_answer (sym change_with_is ∙ found)
 
       passed_it : is_done (step_place t s) ≡ true
@@ -286,7 +287,7 @@ module _ (rules counts : List ℕ) (set_ok : accepted_set rules counts ≡ true)
           changed_so = record {
             table_accepted = w.table_accepted;
             next_accepted = and_then_first (check_table (take long next)) _ inner_done;
-            passed = passed_place t s passed_it ∙ ap Done found_is.1;
+            passed = passed_place t s passed_it ∙ ap Done (ap value (sym (passed_place t s passed_it)) ∙ found_is.1);
             next_is = after_is;
             sized = w.sized;
             last = λ q. w.last (let apart : ¬ (k ≡ 0) = eqb-false k 0 q in omega (arith, apart));

@@ -1,9 +1,9 @@
 -- What the engine's private functions require and promise. A reader of the public contracts need not believe it. Assumes nothing.
-use Rattle.std.specs.Prelude.{ℕ, suc, ◌+◌, ◌<◌, ◌≤◌, ◌≡◌, Bool, true, List, length, get_or}
+use Rattle.std.specs.Prelude.{ℕ, suc, ◌+◌, ◌<◌, ◌≤◌, ◌≡◌, Bool, true, ◌&&◌, List, length, get_or, eqb}
 use Rattle.base.specs.Lists.{select}
 use Rattle.tables.specs.Words.{row_count, rows, rows_from, entry_count}
 use Rattle.tables.specs.Rules.{nesting_limit, around, accepted_rule}
-use Rattle.tables.specs.Tables.{accepted_table}
+use Rattle.tables.specs.Tables.{root, is_parent, accepted_table}
 use Rattle.tables.specs.declared.Row.{Row}
 use Rattle.tables.specs.declared.Comparison.{Comparison}
 use Rattle.tables.specs.declared.Over.{Over}
@@ -41,6 +41,13 @@ NamedParent o = (v : ℕ) → o ≡ Under v → v < nesting_limit
 -- a quantifier, as the code has read its entry, ranges over a row
 abbrev pub ranges_by : List ℕ → Bindings → Quantified → Row → Bool
 ranges_by pool b q r = meaning.ranges q.over q.name (meant pool b) r
+
+-- a row is a root, or hangs under another, and passes a name test: tested in this order
+abbrev pub is_named_root : ℕ → Row → Bool
+is_named_root name r = root r && meaning.named name r
+
+abbrev pub is_named_child : Row → ℕ → Row → Bool
+is_named_child parent name r = meaning.named name r && eqb parent.at r.up && is_parent r parent
 
 -- it ranges over no row but some of the k from row i on
 pub record Covers (pool : List ℕ) (b : Bindings) (q : Quantified) (i k : ℕ) : Type 0 where

@@ -1,12 +1,13 @@
 // Comparisons of values.
 ghost use Rattle.std.specs.Prelude.{◌≡◌, ◌<◌};
 ghost use Rattle.tables.specs.Rules.{nesting_limit};
+ghost use Rattle.tables.specs.Nodes.{comparison_kind};
 ghost use Rattle.tables.specs.Values.{is_less};
 ghost use Rattle.logic.specs.Verdict.{compare, value_at, value_of};
 ghost use Rattle.engine.specs.Ready.{Placed, meant, NamedOther, compared_by};
 
 use super::bindings::Bindings;
-use tables::{Comparison, Operand, VALUE_LIMIT, row_at};
+use tables::{Comparison, Operand, VALUE_LIMIT, comparison_kind, row_at};
 
 // The signed order.
 fn is_less(x: u32, y: u32) -> bool
@@ -27,6 +28,13 @@ pub fn compare(by: Comparison, x: u32, y: u32) -> bool
         Comparison::Less => is_less(x, y),
         Comparison::AtMost => !is_less(y, x),
     }
+}
+
+// The same by a comparison's kind, 7, 8 or 9; any other kind compares as 9 does.
+pub fn compare_values(kind: u32, x: u32, y: u32) -> bool
+    ensures { result ≡ compare (comparison_kind kind) x y }
+{
+    compare(comparison_kind(kind), x, y)
 }
 
 // The value of a variable, 0 where it has no row.

@@ -19,6 +19,6 @@ mod words;
 
 pub use bindings::Bindings;
 pub use calls::{marks, set_verdicts, verdict};
-pub use comparisons::compare;
+pub use comparisons::{compare, compare_values};
 pub use ranges::is_named;
 pub use trying::try_plan;

@@ -44,14 +44,13 @@ fn bring_up(
     requires { Changed set.now.rules.now set.now.counts.now table.now next.now step.now row first bytes.old }
     ensures { bytes.new ≡ sets bytes.old 0 (verdict_bytes (formulas_of set.now.rules.now set.now.counts.now) (rows next.now)) }
 {
+    if first {
+        write_verdicts(set, next, |_rule: &[u32]| true, bytes);
+        return;
+    }
     let seen = table_with_row(step, table, next);
     let way = way_up(seen, row);
-    write_verdicts(
-        set,
-        next,
-        |rule: &[u32]| first || reaches(rule, &way),
-        bytes,
-    );
+    write_verdicts(set, next, |rule: &[u32]| reaches(rule, &way), bytes);
 }
 
 // 8 to 12 of the table after step k, and 17 for a table buffer of `room` words and a verdict buffer of `space` bytes, n for each step.
@@ -111,7 +110,10 @@ fn try_step(
 {
     let mut next = [0u32; NEXT_WORDS];
     match apply(&table[..words], step, &mut next) {
-        Err(Refusal { fault, place: _ }) => Err(Refusal { fault, place: k }),
+        Err(refused) => Err(Refusal {
+            fault: refused.refusal.fault,
+            place: k,
+        }),
         Ok(change) => {
             let after = change.words;
             let rules = set.counts.len();

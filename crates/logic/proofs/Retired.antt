@@ -2,10 +2,18 @@
 -- alone. Assumes nothing.
 use Prim.Native.Nat.{ℕ, suc}
 use mathlib.Core.Path.{◌≡◌, refl, sym, ap}
-use mathlib.Core.Bool.{Bool, true, false, not, ◌&&◌, ◌||◌}
-use mathlib.Core.List.{List, [], ◌∷◌, map}
-use lib.ListN.{length}
+use mathlib.Core.Path.{◌∙◌}
+use mathlib.Core.Bool.{Bool, true, false, not, cond, ◌&&◌, ◌||◌}
+use mathlib.Core.List.{List, [], ◌∷◌, ◌++◌, map}
+use native.Mathlib.Omega.{arith}
+use lib.ListN.{length, drop}
 use lib.Dec.{eqb, leb}
+use borrow.Author.Tests.{ne_eqb}
+use Rattle.std.specs.Prelude.{Err}
+use Rattle.base.specs.Search.{some, first}
+use Rattle.tables.specs.Refusals.{number_of}
+use Rattle.tables.specs.Answers.{number, place, value, is_done, Refused}
+use Rattle.tables.proofs.FaultNumbers.{none_is_15, none_is_0}
 use Rattle.base.specs.Lists.{select, any}
 use Rattle.base.proofs.Lists.{any_none}
 use Rattle.tables.specs.Answers.{and_then, unless, unless_any, output}
@@ -122,3 +130,88 @@ module _ (retired : Fault) (rule table : List ℕ) (mode : ℕ) where
   pub output_as_before : (out : List ℕ) → part_out rule table mode out ≡ former_out out
   unfolding send_out former_out
   output_as_before out = ap (λ (a : Answer). output a (words_of sent) out) (answer_as_before (length out))
+
+-- ---- the same of an answer as it is told, by number, place and value: so 15 can be said, which is no fault's number any more
+abbrev pub Told : Type 0
+Told = ℕ × ℕ × ℕ
+
+abbrev pub told : Answer → Told
+told a = (number a, place a, value a)
+
+-- the output of an answer so told
+abbrev pub told_output : Told → List ℕ → List ℕ → List ℕ
+told_output a result out = cond (eqb a.0 0) (result ++ drop (length result) out) out
+
+told_next : (a next : Answer) → told (and_then a next) ≡ cond (is_done a) (told next) (told a)
+told_next (Done n) next = refl
+told_next (Err r) next = refl
+
+told_out : (a : Answer) (result out : List ℕ) → output a result out ≡ told_output (told a) result out
+told_out (Done n) result out = refl
+told_out (Err r) result out = rw (ne_eqb (number_of r.fault) 0 (none_is_0 r.fault))
+
+and_then_seq : (a b next : Answer) → and_then a (and_then b next) ≡ and_then (and_then a b) next
+and_then_seq (Done n) b next = refl
+and_then_seq (Err r) b next = refl
+
+unless_seq : (ok : Bool) (k : Fault) (b next : Answer) → unless ok k (and_then b next) ≡ and_then (unless ok k b) next
+unless_seq true k b next = refl
+unless_seq false k b next = refl
+
+unless_any_seq : (fault : ℕ → Bool) (k : Fault) (n : ℕ) (b next : Answer)
+    → unless_any fault k n (and_then b next) ≡ and_then (unless_any fault k n b) next
+unless_any_seq fault k n b next = go (some fault n)
+  where
+    go : (s : Bool) → cond s (Refused k (first fault n)) (and_then b next) ≡ and_then (cond s (Refused k (first fault n)) b) next
+    go true = refl
+    go false = refl
+
+module _ (rule table : List ℕ) (mode : ℕ) where
+  -- what was tested before 15
+  abbrev before_15 : Answer
+  before_15 =
+      and_then (check_rule rule) (and_then (check_table table)
+      (unless (leb 1 mode && leb mode 3) Mode (unless_any (other_device table) OtherDevice (row_count table) (Done 0))))
+
+  -- then 15, place 0, and 17 last
+  pub former_told : ℕ → Told
+  former_told room =
+      cond (is_done before_15)
+      (cond (eqb mode 3 && contradiction (formula rule) (rows table)) (15, 0, 0) (told (fits Mode rule table mode room)))
+      (told before_15)
+
+  pub former_told_out : List ℕ → List ℕ
+  former_told_out out = told_output (former_told (length out)) (words_of (sent Mode rule table mode)) out
+
+  never : (m : Bool) (t u : Told) → cond (m && contradiction (formula rule) (rows table)) t u ≡ u
+  never true t u = rw (never_met (formula rule) (rows table))
+  never false t u = refl
+
+  in_turn : (room : ℕ) → part_answer rule table mode room ≡ and_then before_15 (fits Mode rule table mode room)
+  unfolding send_answer
+  in_turn room =
+      ap (λ (z : Answer). and_then (check_rule rule) (and_then (check_table table) (unless (leb 1 mode && leb mode 3) Mode z)))
+      (unless_any_seq (other_device table) OtherDevice (row_count table) (Done 0) (fits Mode rule table mode room))
+      ∙ ap (λ (z : Answer). and_then (check_rule rule) (and_then (check_table table) z))
+      (unless_seq (leb 1 mode && leb mode 3) Mode _ (fits Mode rule table mode room))
+      ∙ ap (and_then (check_rule rule)) (and_then_seq (check_table table) _ (fits Mode rule table mode room))
+      ∙ and_then_seq (check_rule rule) _ (fits Mode rule table mode room)
+
+  -- on all inputs, in every mode: number, place and value are those of before, and so is the output
+  pub told_as_before : (room : ℕ) → told (part_answer rule table mode room) ≡ former_told room
+  unfolding former_told
+  told_as_before room =
+      ap told (in_turn room)
+      ∙ told_next before_15 (fits Mode rule table mode room)
+      ∙ ap (λ (t : Told). cond (is_done before_15) t (told before_15)) (sym (never (eqb mode 3) (15, 0, 0) (told (fits Mode rule table mode room))))
+
+  pub output_told_as_before : (out : List ℕ) → part_out rule table mode out ≡ former_told_out out
+  unfolding send_out former_told_out
+  output_told_as_before out =
+      told_out (part_answer rule table mode (length out)) (words_of (sent Mode rule table mode)) out
+      ∙ ap (λ (a : Told). told_output a (words_of (sent Mode rule table mode)) out) (told_as_before (length out))
+
+-- and no call gives 15
+pub never_told_15 : (a : Answer) → (told a).0 ≡ 15 → ⊥
+never_told_15 (Done n) e = omega (arith, e)
+never_told_15 (Err r) e = none_is_15 r.fault e

@@ -1,4 +1,4 @@
--- The modes and their words. Assumes nothing.
+-- The modes and their words; cited by private contracts alone. Assumes nothing.
 use Rattle.std.specs.Prelude.{ℕ, cond, eqb, Option, Some, None}
 use Rattle.parts.specs.declared.modes.Mode.{Mode}
 use Rattle.parts.specs.declared.modes.Mode.TheVariants.{All, Branch, Full}

@@ -1,4 +1,4 @@
--- The rows that a quantifier ranges over: roots, or those whose parent is a bound row. Assumes nothing.
+-- The rows that a quantifier ranges over: roots, or those whose parent is a bound row; cited by private contracts alone. Assumes nothing.
 use Rattle.std.specs.Prelude.{ℕ, zero, suc, ◌<◌, Bool, ◌&&◌, List, get_or, Option, Some, None}
 use Rattle.tables.specs.Words.{row_at}
 use Rattle.tables.specs.Rules.{nesting_limit}

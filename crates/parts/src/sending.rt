@@ -25,7 +25,8 @@ pub(crate) fn send(table: &[u32], kept: &[bool], out: &mut [u32])
     // Kept: the place grows with a kept row only, and not with each row as an iterator's count does.
     let mut at = 0;
     for row in 0..table.len() / ROW_WORDS {
-        if kept[row] {
+        let stays = kept[row];
+        if stays {
             copy_at(out, at, &table[ROW_WORDS * row..ROW_WORDS * (row + 1)]);
             at += ROW_WORDS;
         }

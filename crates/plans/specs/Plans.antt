@@ -3,13 +3,14 @@
 use Rattle.std.specs.Prelude.{ℕ, zero, suc, ◌+◌, ◌-◌, ◌*◌, ◌/◌, ◌≡◌, Bool, true, false, not, cond, ◌&&◌, ◌||◌, List, [], ◌∷◌, ◌++◌, map, length, get_or, take, drop, eqb, ltb, leb, Result, Ok, Err}
 use Rattle.base.specs.Lists.{◌∈◌, select}
 use Rattle.base.specs.Search.{first, some}
-use Rattle.tables.specs.Answers.{and_then, unless, fitting, is_done, output}
+use Rattle.tables.specs.Answers.{and_then, unless, fitting, is_done, value, output}
 use Rattle.tables.specs.Words.{row_words, row_at, row_count, rows, columns_of}
 use Rattle.tables.specs.Tables.{same_row, is_parent, is_above, accepted_table}
 use Rattle.tables.specs.declared.Row.{Row}
 use Rattle.tables.specs.Answers.{Answer, Done}
 use Rattle.tables.specs.declared.refusals.Refusal.{Refusal}
 use Rattle.plans.specs.declared.Change.{Change}
+use Rattle.plans.specs.declared.RefusedStep.{RefusedStep}
 use Rattle.tables.specs.declared.Fault.TheVariants.{Step, Absent, Removal}
 
 -- ---- steps
@@ -105,16 +106,20 @@ table_after t s =
     let p = place_for t (step_row s) in
     cond (setting s) (after_set p (step_row s).value t) (cond (adding s) (after_add p (step_row s) t) (after_remove p t))
 
--- ---- the call: the number of words of the table after, or the refusal, 17 for a short output; and the place of the step's row
+-- ---- the call: the number of words of the table after, or the refusal, 17 for a short output; and the place of the step's row, 0 where
+-- 23 to 25 refuse it
 abbrev pub change_answer : List ℕ → List ℕ → ℕ → Answer
 change_answer t s room = and_then (step_place t s) (fitting (table_after t s) room)
 
-abbrev pub change_with : ℕ → Answer → Result Change Refusal
-change_with row (Done words) = Ok (record { words = words; row = row })
-change_with row (Err r) = Err r
+abbrev pub refused_at : ℕ → Refusal → RefusedStep
+refused_at row r = record { refusal = r; row = row }
 
-abbrev pub changed : List ℕ → List ℕ → ℕ → Result Change Refusal
-changed t s room = change_with (place_for t (step_row s)) (change_answer t s room)
+abbrev pub change_with : ℕ → Answer → Result Change RefusedStep
+change_with row (Done words) = Ok (record { words = words; row = row })
+change_with row (Err r) = Err (refused_at row r)
+
+abbrev pub changed : List ℕ → List ℕ → ℕ → Result Change RefusedStep
+changed t s room = change_with (value (step_place t s)) (change_answer t s room)
 
 abbrev pub change_out : List ℕ → List ℕ → List ℕ → List ℕ
 change_out t s out = output (change_answer t s (length out)) (table_after t s) out

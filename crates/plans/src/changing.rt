@@ -5,8 +5,8 @@ ghost use Rattle.plans.specs.Plans.{changed, change_out};
 ghost use Rattle.plans.specs.Steps.{after_step};
 ghost use Rattle.plans.specs.Changing.{spliced, StepPlaced};
 
-use super::Change;
 use super::steps::{Step, StepKind, place_of, read_step};
+use super::{Change, RefusedStep};
 use base::copy_at;
 use tables::{Answer, Fault, ROW_WORDS, Refusal, Row, columns_of, row_at};
 
@@ -48,14 +48,16 @@ fn put_step(table: &[u32], step: Step, place: usize, out: &mut [u32]) -> Answer
 }
 
 // What a step does to a table; the words of the table after go to the start of `out`.
-pub fn apply(table: &[u32], step: &[u32], out: &mut [u32]) -> Result<Change, Refusal>
+pub fn apply(table: &[u32], step: &[u32], out: &mut [u32]) -> Result<Change, RefusedStep>
     ensures change { result ≡ changed table.now step.now (length out.old) }
     ensures words { out.new ≡ change_out table.now step.now out.old }
 {
     let Some(step) = read_step(step) else {
-        return Err(Refusal::of(Fault::Step));
+        return Err(Refusal::of(Fault::Step).into());
     };
     let row = place_of(table, step)?;
-    let words = put_step(table, step, row, out)?;
-    Ok(Change { words, row })
+    match put_step(table, step, row, out) {
+        Ok(words) => Ok(Change { words, row }),
+        Err(refusal) => Err(RefusedStep { refusal, row }),
+    }
 }

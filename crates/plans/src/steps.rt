@@ -96,7 +96,7 @@ pub(crate) fn place_of(table: &[u32], step: Step) -> Answer
     Ok(place)
 }
 
-// The place of a step's row, or the refusal of the step: also what `apply` doesn't tell where its output is too short.
+// The place of a step's row, or the refusal of the step.
 pub fn step_place(table: &[u32], step: &[u32]) -> Answer
     ensures { result ≡ step_place table.now step.now }
 {

@@ -2,22 +2,25 @@
 use Prim.Native.Nat.{ℕ, ◌+◌, ◌-◌, ◌*◌, ◌/◌, ◌%◌, ◌^◌, ◌≤◌, ◌<◌, min}
 use mathlib.Core.Path.{◌≡◌, refl, sym, ap, ◌∙◌}
 use mathlib.Core.Bool.{Bool, false, not}
-use mathlib.Core.List.{List, [], ◌∷◌}
+use mathlib.Core.List.{List}
 use native.Mathlib.Nat.{zero-mul, suc-mul, one-le-pow, le-mul_of_pos_right, lt_of_mul-lt-mul_right}
 use native.Mathlib.Nat.{mul-add-div_right, mul-add-mod_self_right, div-eq_of_lt, mod-eq_of_lt}
 use native.Mathlib.Numerals.{add-one}
 use native.Mathlib.Omega.{arith}
 use lib.ListN.{get_or}
-use lib.Dec.{eqb}
-use borrow.Author.Tests.{eqb-true, not-false}
+use lib.Dec.{eqb, ltb}
+use borrow.Author.Tests.{eqb-true, ltb-true, ltb-false, not-false}
+use Rattle.base.proofs.Bools.{either}
+use Rattle.std.proofs.lemmas.List.{get_or_default, get_or_past}
 use Rattle.base.specs.Search.{some, first_from}
 use Rattle.base.proofs.Search.{none_at}
 use Rattle.powers.specs.Powers.{word_digits, power_at, digit_at, Subtracted}
 use Rattle.powers.specs.declared.Digit.{Digit}
+use Rattle.powers.specs.declared.TheConstants.{POWERS}
 
--- the table of the source, entry by entry
+-- ---- the table
 abbrev powers : List ℕ
-powers = 1 ∷ 10 ∷ 100 ∷ 1000 ∷ 10000 ∷ 100000 ∷ 1000000 ∷ 10000000 ∷ 100000000 ∷ 1000000000 ∷ []
+powers = POWERS
 
 abbrev is_wrong : ℕ → Bool
 is_wrong i = not (eqb (get_or powers i 0) (10 ^ i))
@@ -32,6 +35,16 @@ powers_of_ten i h =
 
 pub power_is : (i : ℕ) → i < word_digits → power_at i ≡ 10 ^ i
 power_is i h = ap (λ (n : ℕ). 10 ^ n) (omega arith)
+
+-- past the table stands its last entry
+abbrev last_power : ℕ
+last_power = get_or powers (word_digits - 1) 0
+
+pub entry_is : (i : ℕ) → get_or powers i last_power ≡ power_at i
+entry_is i = either (ltb i word_digits)
+    (λ e. let h = ltb-true i word_digits e in get_or_default powers i last_power 0 h ∙ powers_of_ten i h ∙ sym (power_is i h))
+    (λ e. let past : 9 ≡ min i (word_digits - 1) = omega (arith, ltb-false i word_digits e) in
+    get_or_past powers i last_power (ltb-false i word_digits e) ∙ ap (λ (n : ℕ). 10 ^ n) past)
 
 power_pos : (i : ℕ) → 1 ≤ power_at i
 power_pos i = one-le-pow (min i (word_digits - 1)) 10 (omega arith)

@@ -32,7 +32,9 @@ use Rattle.published.specs.Inputs.{every_is_blank, house, below_second, each_bla
 use Rattle.published.specs.Inputs.{keeps_roots, roots_and_child, set_step, add_step, remove_step, second_server, ten_to, nines, text_then, line}
 use Rattle.published.specs.Inputs.{line_below, digit, limit_with, row_to, entry_to, short_line}
 use Rattle.published.specs.Stated.{published, published_template}
-use Rattle.tables.specs.declared.Fault.TheVariants.{RuleLength, Word, Child, Nesting, Unbound, TableLength, Range, Order, Parent, Sibling, Mode, OtherDevice, Join, ShortOutput, Line, Counts, Blank, Parameters, Depth, Rows}
+use Rattle.tables.specs.Refusals.{number_of}
+use Rattle.tables.specs.declared.Fault.{Fault}
+use Rattle.tables.specs.declared.Fault.TheVariants.{RuleLength, Kind, Word, Child, Naming, Nesting, Unbound, TableLength, Range, Order, Parent, Sibling, Mode, OtherDevice, Join, ShortOutput, FirstLine, Line, Counts, Blank, Parameters, Step, Absent, Removal, Depth, Rows}
 
 -- ---- what a case gives and expects
 -- a row by (device, at)
@@ -77,6 +79,8 @@ pub data Case : Type 0 where
   unfolded : List ℕ → ℕ → Answer → Case
   -- rule, one device's table: the published truth on its rows as listed, the verdict on the folded ones, and that on the rows as listed
   fold_judged : List ℕ → List ℕ → Bool → Bool → Case
+  -- faults: their numbers
+  numbered : List Fault → List ℕ → Case
   -- rule, a table that is not accepted: its refusal, the published truth, the verdict on rows
   differs : List ℕ → List ℕ → Answer → Bool → Bool → Case
 
@@ -198,6 +202,7 @@ right (folds table left) =
 right (unfolded table room answer) =
     same_answer (fold_answer table room) answer
     && same_words (fold_out table (buffer room)) (buffer room)
+right (numbered faults numbers) = same_words (map number_of faults) numbers
 right (fold_judged rule table truth on_rows) =
     same_bool (published rule table) truth
     && same_answer (verdict_answer rule (folded_table table (buffer (length table)))) (Done (one truth))
@@ -543,6 +548,11 @@ cases =
     -- folded tables of two devices with equal roots still meet 12 in joining, and so does a step that adds an equal sibling
     ∷ joins (row 1 1 0 0 1 5) (row 2 1 0 0 1 5) (Refused Sibling 1)
     ∷ tries (every_is 1) (2 ∷ []) (row 1 1 0 0 1 1 ++ row 1 2 1 1 2 2) (add_step 1 3 1 1 2 2) 30 8 12 0 0 (row 1 1 0 0 1 1 ++ row 1 2 1 1 2 2) []
+    -- the number of each fault: 15 and 27 are none's
+    ∷ numbered (RuleLength ∷ Kind ∷ Word ∷ Child ∷ Naming ∷ Nesting ∷ Unbound ∷ TableLength ∷ Range ∷ Order ∷ Parent ∷ Sibling ∷ [])
+    (1 ∷ 2 ∷ 3 ∷ 4 ∷ 5 ∷ 6 ∷ 7 ∷ 8 ∷ 9 ∷ 10 ∷ 11 ∷ 12 ∷ [])
+    ∷ numbered (Mode ∷ OtherDevice ∷ Join ∷ ShortOutput ∷ FirstLine ∷ Line ∷ Counts ∷ Blank ∷ Parameters ∷ Step ∷ Absent ∷ Removal ∷ Depth ∷ Rows ∷ [])
+    (13 ∷ 14 ∷ 16 ∷ 17 ∷ 18 ∷ 19 ∷ 20 ∷ 21 ∷ 22 ∷ 23 ∷ 24 ∷ 25 ∷ 26 ∷ 28 ∷ [])
     -- without check 12 the sets of values and the rows differ: two nodes 1 = 5, of which one has a child; so on two
     -- devices, and under one parent
     ∷ differs every_has_one (row 1 1 0 0 1 5 ++ row 1 2 1 1 2 1 ++ row 1 3 0 0 1 5) (Refused Sibling 2) true false

@@ -5,6 +5,7 @@ use mathlib.Core.Bool.{Bool, true}
 use mathlib.Core.List.{[], ◌∷◌}
 use lib.Dec.{eqb}
 use lib.ListN.{get_or}
+use native.Mathlib.Omega.{arith}
 use borrow.Author.Tests.{eqb-true, eq-eqb}
 use Rattle.tables.specs.Refusals.{number_of}
 use Rattle.tables.specs.declared.refusals.Fault.{Fault}
@@ -54,3 +55,11 @@ is_fault_true j k e = same_number j k (eqb-true (number_of j) (number_of k) e)
 
 pub is_fault_same : (j k : Fault) → j ≡ k → is_fault j k ≡ true
 is_fault_same j k e = eq-eqb (number_of j) (number_of k) (ap number_of e)
+
+-- 0 tells that a call is accepted
+pub none_is_0 : (k : Fault) → number_of k ≡ 0 → ⊥
+none_is_0 k e = omega (arith, e, ap number_of (sym (back k) ∙ ap fault_of e))
+
+-- 15 is retired: it is no fault's number
+pub none_is_15 : (k : Fault) → number_of k ≡ 15 → ⊥
+none_is_15 k e = omega (arith, e, ap number_of (sym (back k) ∙ ap fault_of e))

@@ -1,4 +1,4 @@
--- Private contracts of the checks of rows: rows with one hash are linked, each to the last one before it. Assumes nothing.
+-- Rows with one hash are linked, each to the last one before it; cited by private contracts and by those of `Chains`. Assumes nothing.
 use Rattle.std.specs.Prelude.{ℕ, zero, suc, ◌+◌, ◌*◌, ◌/◌, ◌%◌, ◌<◌, ◌≤◌, ◌≡◌, Bool, cond, not, ◌&&◌, ◌||◌, List, length, get_or, eqb, Option, Some, None, Result}
 use Rattle.base.specs.Search.{some, found}
 use Rattle.tables.specs.Words.{row_at}

@@ -24,8 +24,10 @@ pub use files::{read_pool, read_rule, write_counts, write_pool, write_refusal, w
 pub use hashes::HASHES;
 pub use joining::join;
 pub use links::Chains;
-pub use nodes::{Comparison, Connective, Node, Operand, Over, Quantifier, node_of};
-pub use refusals::{Answer, Fault, Refusal, refuse_at};
+pub use nodes::{
+    Comparison, Connective, Node, Operand, Over, Quantifier, comparison_kind, node_of,
+};
+pub use refusals::{Answer, Fault, Refusal, refuse_at, value_of};
 pub use rows::{
     AT, DEEP, DEVICE, NAME, ROW_WORDS, UP, VALUE, VALUE_LIMIT, columns_of, is_above, is_parent,
     is_twin, row_at,

@@ -81,7 +81,8 @@ fn quantifier_kind(kind: u32) -> Quantifier
     }
 }
 
-fn comparison_kind(kind: u32) -> Comparison
+// Kind 7, 8 or 9; any other counts as 9 does.
+pub fn comparison_kind(kind: u32) -> Comparison
     ensures { result ≡ comparison_kind kind }
 {
     match kind {

@@ -1,5 +1,6 @@
 // What a call refuses: the fault, and its place.
 ghost use Rattle.std.specs.Prelude.{◌≡◌};
+ghost use Rattle.tables.specs.Answers.{value};
 ghost use Rattle.tables.specs.Refusals.{number_of, refusal_at};
 
 // The faults, in the order of their numbers.
@@ -87,6 +88,13 @@ impl Refusal {
 
 // What a call answers: its value, or the refusal.
 pub type Answer = Result<usize, Refusal>;
+
+// The value of an answer, 0 of a refused one.
+pub fn value_of(answer: Answer) -> usize
+    ensures { result ≡ value answer }
+{
+    answer.unwrap_or(0)
+}
 
 // Refuses the first place that has the fault, where a search found one.
 pub fn refuse_at(fault: Fault, found: Option<usize>) -> Result<(), Refusal>

@@ -72,7 +72,7 @@ pub fn is_above(r: Row, b: Row) -> bool
 pub fn is_parent(r: Row, p: Row) -> bool
     ensures { result ≡ is_parent r p }
 {
-    p.device == r.device && p.at == r.up
+    (p.device == r.device) & (p.at == r.up)
 }
 
 // In 64 bits: a depth of 4,294,967,295 plus one is no depth.

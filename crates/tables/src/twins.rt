@@ -71,15 +71,16 @@ fn has_twin_before(s: &[u32], t: &[u32], n: usize, r: Row) -> bool
     has_twin_in(t, n - m, r)
 }
 
-// Whether one of the rows linked, which are the first of s and t, is an equal sibling of r.
-fn has_twin(s: &[u32], t: &[u32], chains: &Chains, r: Row) -> bool
+// Whether one of the rows linked, which are the first of s and t, is an equal sibling of r, whose hash is h.
+fn has_twin(s: &[u32], t: &[u32], chains: &Chains, h: usize, r: Row) -> bool
     requires row_words_len { length s.now % row_words ≡ 0 }
     requires rows_in_bounds { row_words * chains.now.rows ≤ length s.now + length t.now }
     requires chained { Chained (twins_at (s.now ++ t.now)) chains.now }
+    requires hash { h ≡ twin_hash r }
     ensures { result ≡ some (λ j. is_twin r (row_at (s.now ++ t.now) j)) chains.now.rows }
 {
     chains.any(
-        twin_hash(r),
+        h,
         |j| is_twin(r, row_of(s, t, j)),
         |n| has_twin_before(s, t, n, r),
     )
@@ -95,10 +96,11 @@ pub(crate) fn first_twin(s: &[u32], t: &[u32], n: usize) -> Option<usize>
     let mut chains = Chains::new();
     for i in 0..n {
         let r = row_of(s, t, i);
-        if has_twin(s, t, &chains, r) {
+        let h = twin_hash(r);
+        if has_twin(s, t, &chains, h, r) {
             return Some(i);
         }
-        chains.link(twin_hash(r));
+        chains.link(h);
     }
     None
 }

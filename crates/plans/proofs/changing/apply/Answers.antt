@@ -1,6 +1,6 @@
 -- `plans::changing::apply` meets its contract. Assumes nothing.
 use Rattle.std.proofs.Common.{rules, sym, ◌∙◌}
-use Rattle.plans.proofs.Splices.{no_step, place_read, step_done, row_done, after_done, step_placed}
+use Rattle.plans.proofs.Splices.{no_step, place_read, step_done, after_done, step_placed}
 use Rattle.plans.proofs.changing.apply.Goals as goal
 
 pub returns-in_default-clause-change : goal.returns-in_default-clause-change
@@ -18,14 +18,14 @@ returns-in_err-row-clause-words c = rw (place_read c.args.table.now c.args.step.
 pub put_step-requires : goal.put_step-requires
 put_step-requires c = step_placed c.args.table.now c.args.step.now c.in-Some.ensures (sym c.in_ok-row.ensures)
 
-pub returns-in_err-words-clause-change : goal.returns-in_err-words-clause-change
-returns-in_err-words-clause-change c = rw (step_done c.args.table.now c.args.step.now c.in-Some.ensures (sym c.in_ok-row.ensures), after_done c.args.table.now c.args.step.now c.in-Some.ensures (sym c.in_ok-row.ensures), sym c.in_err-words.ensures.value) (search rules)
+pub returns-in-Err-clause-change : goal.returns-in-Err-clause-change
+returns-in-Err-clause-change c = rw (step_done c.args.table.now c.args.step.now c.in-Some.ensures (sym c.in_ok-row.ensures), after_done c.args.table.now c.args.step.now c.in-Some.ensures (sym c.in_ok-row.ensures), sym c.put_step.ensures.value) (search rules)
 
-pub returns-in_err-words-clause-words : goal.returns-in_err-words-clause-words
-returns-in_err-words-clause-words c = rw (step_done c.args.table.now c.args.step.now c.in-Some.ensures (sym c.in_ok-row.ensures), after_done c.args.table.now c.args.step.now c.in-Some.ensures (sym c.in_ok-row.ensures), sym c.in_err-words.ensures.value) c.in_err-words.ensures.out_after
+pub returns-in-Err-clause-words : goal.returns-in-Err-clause-words
+returns-in-Err-clause-words c = rw (step_done c.args.table.now c.args.step.now c.in-Some.ensures (sym c.in_ok-row.ensures), after_done c.args.table.now c.args.step.now c.in-Some.ensures (sym c.in_ok-row.ensures), sym c.put_step.ensures.value) c.put_step.ensures.out_after
 
-pub returns-clause-change : goal.returns-clause-change
-returns-clause-change c = rw (step_done c.args.table.now c.args.step.now c.in-Some.ensures (sym c.in_ok-row.ensures), row_done c.args.table.now c.args.step.now c.in-Some.ensures (sym c.in_ok-row.ensures), after_done c.args.table.now c.args.step.now c.in-Some.ensures (sym c.in_ok-row.ensures), sym c.in_ok-words.ensures.value)
+pub returns-in-Ok-clause-change : goal.returns-in-Ok-clause-change
+returns-in-Ok-clause-change c = rw (step_done c.args.table.now c.args.step.now c.in-Some.ensures (sym c.in_ok-row.ensures), after_done c.args.table.now c.args.step.now c.in-Some.ensures (sym c.in_ok-row.ensures), sym c.put_step.ensures.value) (search rules)
 
-pub returns-clause-words : goal.returns-clause-words
-returns-clause-words c = rw (step_done c.args.table.now c.args.step.now c.in-Some.ensures (sym c.in_ok-row.ensures), after_done c.args.table.now c.args.step.now c.in-Some.ensures (sym c.in_ok-row.ensures), sym c.in_ok-words.ensures.value) c.in_ok-words.ensures.out_after
+pub returns-in-Ok-clause-words : goal.returns-in-Ok-clause-words
+returns-in-Ok-clause-words c = rw (step_done c.args.table.now c.args.step.now c.in-Some.ensures (sym c.in_ok-row.ensures), after_done c.args.table.now c.args.step.now c.in-Some.ensures (sym c.in_ok-row.ensures), sym c.put_step.ensures.value) c.put_step.ensures.out_after

@@ -18,7 +18,7 @@ returns-then-has_twin c =
     sym (found_here _ _ _ c.loop-i-test.true c.loop-i.invariant.none (sym (twin_found t _ _ c.row_of-r.ensures _ b) ∙ c.if-has_twin.true))
 
 pub link-requires-clause-h_in_bounds : goal.link-requires-clause-h_in_bounds
-link-requires-clause-h_in_bounds c = omega (arith, twin_below c.row_of-r.result, c.twin_hash.ensures)
+link-requires-clause-h_in_bounds c = omega (arith, twin_below c.row_of-r.result, c.twin_hash-h.ensures)
 
 pub loop-i-preserved : goal.loop-i-preserved
 loop-i-preserved c =
@@ -26,6 +26,6 @@ loop-i-preserved c =
     let b = (rw c.loop-i.invariant.linked at c.has_twin.ensures) in
     record {
       linked = omega (arith, c.link.ensures.rows, c.loop-i.invariant.linked);
-      chained = c.link.ensures.chained _ (c.twin_hash.ensures ∙ ap twin_hash (c.row_of-r.ensures ∙ ap (row_at t) (sym c.loop-i.invariant.linked))) c.loop-i.invariant.chained;
+      chained = c.link.ensures.chained _ (c.twin_hash-h.ensures ∙ ap twin_hash (c.row_of-r.ensures ∙ ap (row_at t) (sym c.loop-i.invariant.linked))) c.loop-i.invariant.chained;
       none = found_not _ _ c.loop-i.invariant.none (sym (twin_found t _ _ c.row_of-r.ensures _ b) ∙ c.if-has_twin.false);
     }
