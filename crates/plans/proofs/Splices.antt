@@ -135,6 +135,9 @@ module _ (t s : List ℕ) where
       placed : place ≡ place_for t step.row
       placed = ap value (sym step_done ∙ passed_place ok) ∙ ap (place_for t) (sym read.row)
 
+      pub row_done : place_for t (step_row s) ≡ place
+      row_done = ap (place_for t) (sym read.row) ∙ sym placed
+
       pub after_done : table_after t s ≡ after_step t step place
       after_done = after_read ∙ ap (after_step t step) (sym placed)
 
